@@ -1,8 +1,6 @@
 //! Which holes are bare.
 
-ghost use Rattle.std.specs.Prelude.{◌≡◌, ℕ, ◌<◌, false, length, map, IfOk};
-ghost use Rattle.pad_shapes.specs.Zones.{IsInZone};
-ghost use Rattle.ring_rules.specs.Places.{entry_at};
+ghost use Rattle.std.specs.Prelude.{◌≡◌, ◌<◌, false, length, map, IfOk};
 ghost use Rattle.board.specs.BestPads.{AreBare};
 ghost use Rattle.board.specs.Rows.{has_no_best_pad};
 ghost use Rattle.board.specs.Inner.Zones.{CoversNothing};
@@ -31,20 +29,6 @@ fn may_cover_any<S: DepthShape>(pads: &[S], zone: &Zone) -> bool
         }
     }
     false
-}
-
-/// The answer that each hole is bare, where no pad covers a point of a zone with the entry points of all.
-fn all_bare<S: DepthShape>(
-    alloc: Global,
-    pads: &[S],
-    holes: &[Drilled],
-    zone: &Zone,
-) -> Result<Vec<bool>, AllocError>
-    requires holds { (k : ℕ) → k < length holes.now → IsInZone zone.now (entry_at holes.now k) }
-    requires none { CoversNothing S.covers pads.now (length pads.now) zone.now }
-    ensures { IfOk result (λ bare. AreBare S.covers pads.now holes.now bare.items) }
-{
-    vec![in alloc; true; holes.len()]
 }
 
 /// Whether each of some holes is bare, by their best pads.
@@ -76,6 +60,6 @@ pub fn bare_holes<S: DepthShape>(
     if may_cover_any(pads, &zone) {
         bare_by_bests(alloc, pads, holes)
     } else {
-        all_bare(alloc, pads, holes, &zone)
+        vec![in alloc; true; holes.len()]
     }
 }

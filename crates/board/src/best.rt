@@ -4,7 +4,7 @@ ghost use Rattle.std.specs.Prelude.{◌<◌};
 ghost use Rattle.pad_shapes.specs.Shapes.{max_reach};
 
 /// The best pad of a hole: the first of those in which it lies deepest.
-#[derive(Clone, Copy, Debug, PartialEq, Eq)]
+#[derive(Clone, Copy, PartialEq, Eq)]
 pub struct BestPad {
     /// The place of the pad in the list, from 0.
     pub pad: usize,

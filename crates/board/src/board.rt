@@ -138,7 +138,7 @@ impl Board {
         }
     }
 
-    /// What a file draws, by its index among all files: nothing where it is not kept, or where there is no such file.
+    /// The first 100,001 parts of what a file draws, by its index among all files: nothing where it is not kept, or where there is no such file.
     pub fn drawn_of(&self, file: usize) -> &[Drawn]
         ensures { result.now ≡ get_or self.now.drawn file [] }
     {

@@ -7,7 +7,7 @@ use grid_units::Point;
 
 /// A hull of shapes: a box and a box with round corners about one middle. What a shape covers with a reach lies at
 /// least so deep in both, and no reach is more than the greatest depth. All lengths are in pm, at most five metres.
-#[derive(Clone, Copy, Debug, PartialEq, Eq)]
+#[derive(Clone, Copy)]
 pub struct Hull {
     /// The middle.
     pub centre: Point,

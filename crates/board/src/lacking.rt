@@ -1,7 +1,7 @@
 //! What is found of rings, by the best pads of the holes.
 
-ghost use Rattle.std.specs.Prelude.{◌≡◌, ◌<◌, ◌++◌, [], length, map, get_or, IfOk, OnOk};
-ghost use Rattle.ring_rules.specs.Findings.{is_ring_finding, layer_findings, ring_findings};
+ghost use Rattle.std.specs.Prelude.{◌≡◌, ◌<◌, [], length, map, get_or, IfOk};
+ghost use Rattle.ring_rules.specs.Findings.{is_ring_finding, ring_findings};
 ghost use Rattle.board.specs.BestPads.{AreBestPads, AreBestPadsByLayer};
 ghost use Rattle.board.specs.Inner.Lacking.{is_short, falls_short};
 
@@ -49,23 +49,6 @@ fn lacking_by<S: DepthShape>(
     Ok(lacking)
 }
 
-/// Appends the findings of rings on a layer, by the best pads of the holes there.
-fn add_lacking<S: DepthShape>(
-    alloc: Global,
-    findings: &mut Vec<Finding>,
-    layers: &[&[S]],
-    layer: usize,
-    bests: &[Option<BestPad>],
-    holes: &[Drilled],
-    rules: Rules,
-) -> Result<(), AllocError>
-    requires { AreBestPads S.covers (get_or (map (λ pads. pads.now) layers.now) layer []) holes.now bests.now }
-    ensures { OnOk result (findings.new.items ≡ findings.old.items ++ layer_findings S.covers rules.profile rules.ring holes.now layer (get_or (map (λ pads. pads.now) layers.now) layer [])) }
-{
-    let lacking = lacking_by(alloc, layers, layer, bests, holes, rules)?;
-    layer_findings(findings, rules.profile(), layer, holes, &lacking)
-}
-
 /// The findings of [`ring_rules::ring_findings`], by the best pads of the holes on each layer: no pad is looked at again.
 ///
 /// # Errors
@@ -83,15 +66,8 @@ pub fn ring_findings_from_bests<S: DepthShape>(
 {
     let mut findings = Vec::new(alloc);
     for (layer, layer_bests) in bests.iter().enumerate() {
-        add_lacking(
-            alloc,
-            &mut findings,
-            layers,
-            layer,
-            layer_bests,
-            holes,
-            rules,
-        )?;
+        let lacking = lacking_by(alloc, layers, layer, layer_bests, holes, rules)?;
+        layer_findings(&mut findings, rules.profile(), layer, holes, &lacking)?;
     }
     Ok(findings)
 }

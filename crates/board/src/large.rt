@@ -258,17 +258,9 @@ impl<S: DepthShape> LargePads<'_, S> {
         let mut guess = 0;
         for k in 0..holes.len() {
             let best = self.try_guess(guess, &holes[k].hole, bests[k]);
-            guess = place_of(best, guess);
+            guess = best.map_or(guess, |best| best.pad);
             bests[k] = best;
         }
-    }
-}
-
-/// The place of the best pad of a hole, or another one where it has none.
-fn place_of(best: Option<BestPad>, other: usize) -> usize {
-    match best {
-        Some(best) => best.pad,
-        None => other,
     }
 }
 

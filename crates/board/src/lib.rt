@@ -67,7 +67,7 @@ pub enum FileSum {
 }
 
 /// A hole, with the index of its file among all files, from 0, and its number in that file, from 1.
-#[derive(Clone, Copy, Debug, PartialEq, Eq)]
+#[derive(Clone, Copy, Debug)]
 pub struct Numbered {
     pub file: usize,
     pub number: usize,

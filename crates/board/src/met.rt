@@ -15,7 +15,7 @@ use grid_units::{Profile, is_in_span};
 use ring_rules::Drilled;
 
 /// The rules that a board meets.
-#[derive(Clone, Copy, Debug, PartialEq, Eq)]
+#[derive(Clone, Copy, PartialEq, Eq)]
 pub enum Met {
     /// All of them: no hole, or no two holes, are asked for anything.
     Any,
@@ -26,7 +26,7 @@ pub enum Met {
 }
 
 /// The rings that a board meets.
-#[derive(Clone, Copy, Debug, PartialEq, Eq)]
+#[derive(Clone, Copy)]
 pub struct RingsMet {
     /// Those that all holes have: none where a hole is bare on a layer where it needs a ring.
     pub ring: Met,
@@ -64,17 +64,6 @@ fn with_ring_in_pads(met: Met, ring: Option<i64>) -> Met
     }
 }
 
-/// What is met, with bare holes counted and skipped, where one more hole needs a ring.
-fn with_ring(met: RingsMet, ring: Option<i64>) -> RingsMet
-    ensures ring { result.ring ≡ with_length met.ring ring }
-    ensures held { result.in_pads ≡ with_length_in_pads met.in_pads ring }
-{
-    RingsMet {
-        ring: least(met.ring, ring),
-        in_pads: with_ring_in_pads(met.in_pads, ring),
-    }
-}
-
 /// What a board without a layer meets.
 pub fn met_without_layers<S: DepthShape>(layers: &[&[S]], holes: &[Drilled]) -> RingsMet
     ensures { (profile : Profile) → MeetsOnLayers S.covers profile (map (λ pads. pads.now) layers.now) holes.now 0 result }
@@ -102,17 +91,14 @@ pub fn met_with_layer<S: DepthShape>(
     let mut met = met;
     for (hole, drilled) in holes.iter().enumerate() {
         if needs_ring(layer, drilled) {
-            met = with_ring(met, ring_of(profile, bests[hole], &drilled.hole));
+            let ring = ring_of(profile, bests[hole], &drilled.hole);
+            met = RingsMet {
+                ring: least(met.ring, ring),
+                in_pads: with_ring_in_pads(met.in_pads, ring),
+            };
         }
     }
     met
-}
-
-/// The gaps that a board meets, by its nearest holes.
-fn most(nearest: Nearest) -> Met
-    ensures { result ≡ Met.UpTo nearest.gap }
-{
-    Met::UpTo(nearest.gap)
 }
 
 /// The greatest gap that a board meets, by its nearest holes: any where there are none, else their gap. Under just
@@ -123,7 +109,7 @@ pub fn gap_met_of_nearest(holes: &[Drilled], nearest: Option<Nearest>) -> Met
     ensures passes { GapsPass holes.now result }
 {
     match nearest {
-        Some(nearest) => most(nearest),
+        Some(nearest) => Met::UpTo(nearest.gap),
         None => Met::Any,
     }
 }

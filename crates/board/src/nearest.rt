@@ -18,7 +18,7 @@ use ring_rules::{Drilled, HoleIndex, Limits, limits_of, near_zone};
 use std::alloc::{AllocError, Global};
 
 /// Two holes that are nearest to each other, by their places in the list, from 0.
-#[derive(Clone, Copy, Debug, PartialEq, Eq)]
+#[derive(Clone, Copy, PartialEq, Eq)]
 pub struct Nearest {
     /// The hole that comes first in the list.
     pub first: usize,

@@ -11,7 +11,7 @@ use grid_units::{Hole, Profile};
 use ring_rules::{Drilled, is_refused_slot};
 
 /// The least ring of some holes on a layer.
-#[derive(Clone, Copy, Debug, PartialEq, Eq)]
+#[derive(Clone, Copy, PartialEq, Eq)]
 pub struct RowLeast {
     /// The ring, in pm: below 0 where the hole is wider than the copper round its centre.
     pub ring: i64,
@@ -20,7 +20,7 @@ pub struct RowLeast {
 }
 
 /// What rings some holes have on a layer.
-#[derive(Clone, Copy, Debug, PartialEq, Eq)]
+#[derive(Clone, Copy, PartialEq, Eq)]
 pub struct RingRow {
     /// How many holes these are.
     pub holes: usize,

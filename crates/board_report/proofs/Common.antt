@@ -1,6 +1,6 @@
 -- Names that proofs of this crate cite, passed on from one place. Declares nothing.
 pub use Rattle.std.proofs.Common.{Bool, Bor, Equal, Err, Greater, IfOk, Less, List, None, Option, Some, [], ap, ap₂, arith, cond, drop, eqb, false, get_or, inl, inr, length, ltb, map, min, of_z, pos, refl, rules, subst, suc, sym, take, to_z, true, w64, zero, ℕ, ℤ, ◌&&◌, ◌*◌, ◌++◌, ◌+◌, ◌-◌, ◌<◌, ◌||◌, ◌∙◌, ◌∷◌, ◌≡◌, ◌≤◌, ◌⊎◌}
-pub use Rattle.board_report.specs.BoardReport.{IsGapEntry, IsRingEntry, IsRingEntryAt, layer_pads, layer_uncounted}
+pub use Rattle.board_report.specs.BoardReport.{IsGapEntry, IsRingEntry, IsRingEntryAt, layer_pads, layer_uncounted, is_gap}
 pub use Rattle.board_report.specs.Inner.EntriesSoFar.{AddsEntry, AreBoardBests, IsCurrentLayer}
 pub use Rattle.board_report.specs.Inner.Tables.{AreFoundMistakes, AreSearched, IsLayerFileHoles, IsNumberedLeast, IsRowOf, IsSearched, IsTableOf, IsUnitMistakeOfOrNone, has_radius, is_not_empty, items_at, mistake_list, row_of}
 pub use Rattle.board_report.specs.Measures.{AreLayerBests, BoardPasses, IsMeasure}
@@ -13,7 +13,6 @@ pub use Rattle.board.specs.BestPads.{AreBestPads}
 pub use Rattle.board.specs.Meets.{GapsPass, GapsPassExactly, MeetsOnLayers, RingsPass, RingsPassExactly, needs_ring}
 pub use Rattle.board.specs.declared.best.BestPad.{BestPad}
 pub use Rattle.board.specs.Boards.{BoardView, CountsAddUp, board_findings, hole_count, holes_before}
-pub use Rattle.board_report.specs.BoardReport.{is_gap}
 pub use Rattle.board.specs.declared.FileSum.{FileSum}
 pub use Rattle.pad_shapes.specs.WidePads.{wide_pad_covers}
 pub use Rattle.pad_shapes.specs.declared.wide_pad.WidePad.{WidePad}

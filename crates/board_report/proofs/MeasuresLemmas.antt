@@ -3,14 +3,7 @@ use Rattle.board_report.proofs.Common.{◌≡◌, ◌++◌, List, [], ◌∷◌,
 use Rattle.ring_rules.specs.Findings.{ring_findings, gap_findings}
 use Rattle.board.specs.declared.met.Met.{Met}
 use Rattle.report.specs.declared.Measure.{Measure}
-
-no_left : {X : Type 0} (xs ys : List X) → xs ++ ys ≡ [] → xs ≡ []
-no_left [] ys e = refl
-no_left (x ∷ xs) ys e = absurd cc
-
-no_right : {X : Type 0} (xs ys : List X) → xs ++ ys ≡ [] → ys ≡ []
-no_right [] ys e = e
-no_right (x ∷ xs) ys e = absurd cc
+use Rattle.grid_units.proofs.ListLemmas.{append_nil_left, append_nil_right}
 
 neither : {X : Type 0} (xs ys : List X) → xs ≡ [] → ys ≡ [] → xs ++ ys ≡ []
 neither [] ys e k = k
@@ -22,7 +15,7 @@ board_passes profile board ring gap rings gaps rules same =
     let found = ring_findings wide_pad_covers rules.profile rules.ring board.layers board.holes in
     let near = gap_findings rules.gap board.holes in
     let in_profile = λ (p : Profile). ring_findings wide_pad_covers p rules.ring board.layers board.holes in (
-      λ none. ((rings rules.ring).0 (sym (ap in_profile same) ∙ no_left found near none), (gaps rules.gap).0 (no_right found near none)),
+      λ none. ((rings rules.ring).0 (sym (ap in_profile same) ∙ append_nil_left found near none), (gaps rules.gap).0 (append_nil_right found near none)),
       λ allowed. neither found near (ap in_profile same ∙ (rings rules.ring).1 allowed.0) ((gaps rules.gap).1 allowed.1),
     )
 

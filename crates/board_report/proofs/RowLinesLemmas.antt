@@ -4,13 +4,12 @@ use Rattle.std.specs.Int.Signed.{mag}
 use Rattle.std.proofs.lemmas.Int.{ints}
 use Rattle.board.proofs.PassedIntegers.{same}
 use Rattle.std.specs.Option.{option_map_or}
-use Rattle.std.specs.Ordering.{nat_cmp}
+use Rattle.std.specs.Ordering.{nat_cmp, is_eq}
 use Rattle.std.specs.Cmp.{nat_cmp_total}
 use Rattle.std.proofs.Math.Seq.{get_or-append_seam}
 use Rattle.std.proofs.lemmas.Option.{slice_get-get_or, get_or_from_slice_get, slice_get_cases}
 use Rattle.std.proofs.lemmas.Map.Entries.{btree_map_get_place, place_from_lookup}
 use Rattle.std.proofs.lemmas.Map.Keys.{below_from_sorted}
-use Rattle.std.specs.Ordering.{is_eq}
 use Rattle.board.specs.Rows.{IsLeastRingOf, IsRingRow}
 use Rattle.board.specs.declared.row.RowLeast.{RowLeast}
 use Rattle.board.specs.declared.row.RingRow.{RingRow}

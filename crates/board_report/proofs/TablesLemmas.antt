@@ -1,6 +1,7 @@
 -- The holes of a drill file on a layer, by their radius.
 use Rattle.board_report.proofs.Common.{◌≡◌, ◌||◌, ℕ, ◌+◌, ◌-◌, ◌<◌, ◌≤◌, ◌⊎◌, inl, inr, zero, suc, Bool, true, false, cond, List, [], ◌∷◌, ◌++◌, length, get_or, refl, sym, subst, ap, ◌∙◌, arith, All, filter, range_with_len, sum_by, take_all, All-filter, BoardView, hole_count, RowKey, is_in_row, places_of, holes_before, LayerFileHoles, IsLayerFileHoles, is_not_empty, row_of}
 use Rattle.std.proofs.lemmas.List.FromFn.{length-range_with_len, get_or-range_with_len}
+use Rattle.grid_units.proofs.BoolLemmas.{either}
 
 module _ (p : ℕ → Bool) where
   -- one more number
@@ -30,10 +31,6 @@ module _ (p : ℕ → Bool) where
       let rest = left_out (a + 1) n (subst (λ (k : ℕ). p k ≡ false) e fails) in
       let next : suc n + 1 ≡ suc (n + 1) = omega arith in
       subst (λ (m : ℕ). filter p (range_with_len a m) ≡ filter p (range_with_len a (suc n))) (sym next) (ap (λ (xs : List ℕ). cond (p a) (a ∷ xs) xs) rest)
-
-either : (b : Bool) → (b ≡ true) ⊎ (b ≡ false)
-either true = inl refl
-either false = inr refl
 
 -- a list with one more place is not empty
 with_holes_push : (xs : List ℕ) (y : ℕ) → is_not_empty (xs ++ y ∷ []) ≡ true

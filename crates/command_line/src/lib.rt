@@ -115,7 +115,7 @@ pub enum Request<'a> {
 }
 
 /// What a line asks for, and where its files are.
-#[derive(Debug, Drop)]
+#[derive(Drop)]
 pub struct CommandLine<'a> {
     /// The folder from which the names of files are taken, on the line and in a manifest, where one is given.
     pub folder: Option<&'a str>,
@@ -123,7 +123,7 @@ pub struct CommandLine<'a> {
 }
 
 /// Why the words ask for nothing that can be done, with the text for the user.
-#[derive(Debug, Drop)]
+#[derive(Drop)]
 pub enum Refusal {
     /// Help was asked for.
     Help(String),

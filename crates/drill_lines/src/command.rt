@@ -167,7 +167,7 @@ impl fmt::Debug for DrillCommand {
 }
 
 /// The part of a file in which a line stands.
-#[derive(Clone, Copy, PartialEq, Eq)]
+#[derive(Clone, Copy)]
 pub enum Part {
     /// Before `M48`.
     Before,

@@ -9,7 +9,7 @@ use crate::line::begins;
 use grid_units::numbers::{len_before, repeat_len};
 
 /// What the comments of a mixed drill file say of the tools that are defined after them.
-#[derive(Clone, Copy, PartialEq, Eq)]
+#[derive(Clone, Copy)]
 pub enum Plating {
     /// Their holes are plated.
     Plated,

@@ -10,7 +10,7 @@ use grid_units::TEXT_LIMIT;
 use std::alloc::{AllocError, Global};
 
 /// What a reader keeps of a drill file.
-#[derive(Clone, Copy, PartialEq, Eq)]
+#[derive(Clone, Copy)]
 pub enum Keep {
     /// The holes, the tools and the commands.
     Commands,

@@ -7,7 +7,7 @@ use drill_lines::{DrillCommand, Plating, said_plating, says_plated, says_unplate
 use grid_units::Dec;
 
 /// By what it is known which holes of a drill file are plated.
-#[derive(Clone, Copy, PartialEq, Eq)]
+#[derive(Clone, Copy)]
 pub enum PlatingKind {
     /// By its role alone: what the file itself says of that is passed over.
     Stated,

@@ -15,6 +15,7 @@ use Rattle.gerber_commands.specs.WordGrammar.{field, NamesInt}
 use Rattle.grid_units.proofs.BoolLemmas.{and_true, both_true, not_true}
 use Rattle.grid_units.proofs.ListLemmas.{take_while_append, drop_run_append, take_while_all, drop_run_all}
 use Rattle.grid_units.proofs.ReadPrefix.{digits_numbers}
+use Rattle.gerber_commands.proofs.NumberRuns.{sign_number}
 
 -- ---- the bytes of numbers
 
@@ -22,15 +23,6 @@ use Rattle.grid_units.proofs.ReadPrefix.{digits_numbers}
 let_through : {A : Type 0} (t : Bool) (r : Result A Reason) (y : A) (e : Reason) → cond t r (Err e) ≡ Ok y → t ≡ true
 let_through true r y e h = refl
 let_through false r y e h = absurd cc
-
-sign_number : (b : ℕ) → (eqb b 43 || eqb b 45) ≡ true → is_number_char b ≡ true
-sign_number b h = by (is_digit b) (eqb b 43) (eqb b 45) (eqb b 46) h
-  where
-    by : (d p m o : Bool) → (p || m) ≡ true → (d || (p || (m || o))) ≡ true
-    by true p m o h = refl
-    by false true m o h = refl
-    by false false true o h = refl
-    by false false false o h = absurd cc
 
 signed_numbers : (run : List ℕ) → list_all is_digit (without_sign run) ≡ true → list_all is_number_char run ≡ true
 signed_numbers [] h = refl

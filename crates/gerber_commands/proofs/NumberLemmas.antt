@@ -8,7 +8,6 @@ use Rattle.std.proofs.lemmas.List.Sums.{fold-append}
 use Rattle.std.proofs.lemmas.Bool.{eqb-true, le-ltb}
 use Rattle.grid_units.specs.Numbers.{is_digit, value, without_sign, is_digits, is_negative}
 use Rattle.gerber_commands.specs.Numbers.{significant_digits, int_of}
-use Rattle.grid_units.proofs.DigitLemmas.{digit_small}
 
 leading_zero : (t : Bool) (b : ℕ) (bs : List ℕ) → eqb b 48 ≡ t → value (drop (prefix_len (λ c. eqb c 48) bs) bs) ≡ value bs → value (drop (cond t (1 + prefix_len (λ c. eqb c 48) bs) 0) (b ∷ bs)) ≡ value (b ∷ bs)
 leading_zero true b bs e h =

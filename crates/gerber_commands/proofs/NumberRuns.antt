@@ -40,7 +40,7 @@ unsigned_numbers u h k = by (ltb (position_or_len (λ b. eqb b 46) u) (length u)
         let at = position_or_len (λ b. eqb b 46) u in
         ap (list_all is_number_char) (sym (take_all at u (ltb-false at (length u) more))) ∙ digits_numbers (take at u) h
 
-sign_number : (b : ℕ) → (eqb b 43 || eqb b 45) ≡ true → is_number_char b ≡ true
+pub sign_number : (b : ℕ) → (eqb b 43 || eqb b 45) ≡ true → is_number_char b ≡ true
 sign_number b h = grind (arith, nat_tests)
 
 signed_numbers : (run : List ℕ) → list_all is_number_char (without_sign run) ≡ true → list_all is_number_char run ≡ true

@@ -5,6 +5,7 @@ ghost use Rattle.std.specs.List.{list_all};
 ghost use Rattle.std.specs.Option.{option_copied};
 ghost use Rattle.grid_units.specs.Numbers.{is_number_char, parse_decimal};
 ghost use Rattle.grid_units.specs.Results.{Gives};
+ghost use Rattle.gerber_commands.specs.declared.command.Template.TheVariants.{Named};
 ghost use Rattle.gerber_commands.specs.Inner.Parameters.{with_size};
 ghost use Rattle.gerber_commands.specs.Pieces.{split_by, split_by_if, is_name_start, is_name_byte, is_name, standard_template, min_sizes, max_sizes, all_values, are_sizes, sizes_of, aperture_number, define_standard, define_named, define_template, before_comma, after_comma, define, definition, macro_definition};
 
@@ -198,13 +199,18 @@ fn define_standard(
     Ok(ItemCommands::one(Command::Define { number, template }))
 }
 
-/// Copies an optional text.
-fn copy_of(alloc: Global, text: Option<&[u8]>) -> Result<Option<Text>, AllocError>
-    ensures { IfOk result (λ copy. copy ≡ option_copied text.entry) }
+/// The template of a macro with this name, and the text of its parameters.
+fn named_template(
+    alloc: Global,
+    name: &[u8],
+    parameters: Option<&[u8]>,
+) -> Result<Template, AllocError>
+    ensures { IfOk result (λ template. template ≡ Named name.now (option_copied parameters.entry)) }
 {
-    match text {
-        Some(text) => Ok(Some(Text::from_slice(alloc, text)?)),
-        None => Ok(None),
+    let name = Text::from_slice(alloc, name)?;
+    match parameters {
+        Some(text) => Ok(Template::Named(name, Some(Text::from_slice(alloc, text)?))),
+        None => Ok(Template::Named(name, None)),
     }
 }
 
@@ -219,9 +225,7 @@ fn define_named(
     ensures { Gives result (define_named digits.now name.now (option_copied parameters.entry)) }
 {
     let number = aperture_number(digits)?;
-    let name = Text::from_slice(alloc, name)?;
-    let parameters = copy_of(alloc, parameters)?;
-    let template = Boxed::new(alloc, Template::Named(name, parameters))?;
+    let template = Boxed::new(alloc, named_template(alloc, name, parameters)?)?;
     Ok(ItemCommands::one(Command::Define { number, template }))
 }
 

@@ -10,7 +10,7 @@ use crate::command::{
     Action, AttributeKind, Command, Format, Interpolation, QuadrantMode, Sizes, Standard,
     StepRepeat, Template,
 };
-use grid_units::{Dec, Text, Unit};
+use grid_units::{Dec, OptionalInteger, Text, Unit};
 use itoa::Buffer;
 use std::alloc::AllocError;
 
@@ -269,28 +269,22 @@ fn put_macro(out: &mut Vec<u8>, name: &[u8], pieces: &[Text]) -> Result<(), Allo
     put(out, b"%")
 }
 
-/// The four coordinates of an operation, each of which may be left out.
-#[derive(Clone, Copy)]
-struct OperationCoordinates {
-    x: Option<i64>,
-    y: Option<i64>,
-    i: Option<i64>,
-    j: Option<i64>,
-}
-
 /// Appends the word of an operation, as `X10Y20D01*`.
 #[tactic(auto, unfolding(crate::specs::Canonical::canonical))]
 fn put_operation(
     out: &mut Vec<u8>,
     action: Action,
-    at: OperationCoordinates,
+    x: OptionalInteger,
+    y: OptionalInteger,
+    i: OptionalInteger,
+    j: OptionalInteger,
 ) -> Result<(), AllocError>
-    ensures { OnOk result (out.new.items ≡ out.old.items ++ canonical (Operate action at.x at.y at.i at.j)) }
+    ensures { OnOk result (out.new.items ≡ out.old.items ++ canonical (Operate action x y i j)) }
 {
-    put_coordinate(out, b'X', at.x)?;
-    put_coordinate(out, b'Y', at.y)?;
-    put_coordinate(out, b'I', at.i)?;
-    put_coordinate(out, b'J', at.j)?;
+    put_coordinate(out, b'X', x.get())?;
+    put_coordinate(out, b'Y', y.get())?;
+    put_coordinate(out, b'I', i.get())?;
+    put_coordinate(out, b'J', j.get())?;
     put(out, action_code(action))
 }
 
@@ -325,15 +319,7 @@ pub fn write_item(out: &mut Vec<u8>, command: &Command) -> Result<(), AllocError
         Command::Define { number, template } => put_define(out, *number, template.get()),
         Command::Macro(name, pieces) => put_macro(out, name.bytes(), pieces.get().texts()),
         Command::Select(number) => put_number_between(out, b"D", u64::from(*number), b"*"),
-        Command::Operate { action, x, y, i, j } => {
-            let at = OperationCoordinates {
-                x: x.get(),
-                y: y.get(),
-                i: i.get(),
-                j: j.get(),
-            };
-            put_operation(out, *action, at)
-        }
+        Command::Operate { action, x, y, i, j } => put_operation(out, *action, *x, *y, *i, *j),
         Command::Dark => put(out, b"%LPD*%"),
         Command::Clear => put(out, b"%LPC*%"),
         Command::Mirror { x, y } => put(out, mirror_item(*x, *y)),

@@ -1,14 +1,15 @@
 //! The commands of a Gerber text.
 
 ghost use Rattle.std.specs.Prelude.{◌≡◌, IfOk};
+ghost use Rattle.grid_units.specs.Results.{Gives};
 
-use grid_units::{Dec, OptionalInteger, Reason, Text, Unit};
+use grid_units::{Dec, ItemFail, OptionalInteger, Reason, Text, Unit};
 use std::alloc::{AllocError, Global};
 use std::fmt;
 use std::marker::Model;
 
 /// How many digits a coordinate has before and after its decimal point: 0 to 6 each where they are read.
-#[derive(Clone, Copy, Debug, PartialEq, Eq)]
+#[derive(Clone, Copy)]
 pub struct Format {
     pub whole: u8,
     pub decimals: u8,
@@ -23,14 +24,14 @@ pub enum Interpolation {
 }
 
 /// How the centre of an arc is found: in a single quadrant or in several (Gerber format, G75 and G74).
-#[derive(Clone, Copy, Debug, PartialEq, Eq)]
+#[derive(Clone, Copy)]
 pub enum QuadrantMode {
     Single,
     Multi,
 }
 
 /// What an operation does at its point: plot, move or flash (Gerber format, Operations D01, D02, D03).
-#[derive(Clone, Copy, Debug, PartialEq, Eq)]
+#[derive(Clone, Copy, PartialEq, Eq)]
 pub enum Action {
     Plot,
     Move,
@@ -38,7 +39,7 @@ pub enum Action {
 }
 
 /// What an attribute belongs to: the file, apertures or objects (Gerber format, TF, TA, TO).
-#[derive(Clone, Copy, Debug, PartialEq, Eq)]
+#[derive(Clone, Copy)]
 pub enum AttributeKind {
     File,
     Aperture,
@@ -46,7 +47,7 @@ pub enum AttributeKind {
 }
 
 /// The pieces of a macro after its name. Contracts see the list of their texts.
-#[derive(Debug, Drop)]
+#[derive(Drop)]
 pub struct Pieces {
     texts: Vec<Text>,
 }
@@ -79,7 +80,7 @@ impl Pieces {
 
 /// The parameters of a standard aperture, at most five. Contracts see the list of the decimals, each in
 /// units of 10^-8.
-#[derive(Debug, Drop)]
+#[derive(Drop)]
 pub struct Sizes {
     values: [Dec; 5],
     len: usize,
@@ -128,7 +129,7 @@ impl Sizes {
 }
 
 /// A standard aperture: circle, rectangle, obround or polygon (Gerber format, Standard aperture templates).
-#[derive(Clone, Copy, Debug, PartialEq, Eq)]
+#[derive(Clone, Copy)]
 pub enum Standard {
     Circle,
     Rectangle,
@@ -137,7 +138,7 @@ pub enum Standard {
 }
 
 /// A value in memory of its own, so that a command that holds it takes few bytes. Contracts see the value.
-#[derive(Debug, Drop)]
+#[derive(Drop)]
 pub struct Boxed<T> {
     inner: Box<T>,
 }
@@ -171,7 +172,7 @@ impl<T: Drop> Boxed<T> {
 }
 
 /// The shape of an aperture, standard or a macro (Gerber format, Aperture definition AD).
-#[derive(Debug, Drop)]
+#[derive(Drop)]
 pub enum Template {
     /// A standard aperture and its parameters, as `C,0.5`.
     Standard(Standard, Sizes),
@@ -180,7 +181,7 @@ pub enum Template {
 }
 
 /// The counts of columns and rows of a step and repeat block, and its steps (Gerber format, Step and repeat SR).
-#[derive(Clone, Copy, Debug, PartialEq, Eq)]
+#[derive(Clone, Copy)]
 pub struct StepRepeat {
     pub columns: u32,
     pub rows: u32,
@@ -279,9 +280,16 @@ impl fmt::Debug for Command {
 /// What a row of a table of items answers: none where the item does not fit it, else what the item spells, or why it spells nothing.
 pub type ItemRow = Option<Result<ItemCommands, Reason>>;
 
+/// The answer of an item whose row takes no memory.
+pub(crate) fn item_answer(answer: Result<ItemCommands, Reason>) -> Result<ItemCommands, ItemFail>
+    ensures { Gives result answer }
+{
+    Ok(answer?)
+}
+
 /// What one item spells: an interpolation, another command, both or nothing. Contracts see the list of
 /// the commands.
-#[derive(Debug, Drop)]
+#[derive(Drop)]
 pub struct ItemCommands {
     mode: Option<Interpolation>,
     command: Option<Command>,

@@ -14,7 +14,9 @@ ghost use Rattle.gerber_commands.specs.Profiles.{extended_in};
 ghost use Rattle.gerber_commands.specs.Pieces.{refused_format_row, format, format_fields, format_row, unit_piece_row, polarity_row, mirror_row, run_after, turn, scale, transform_row, block_fields, repeat, repeat_start, repeat_row, file_attribute, attribute, removal, is_omitted_or, is_zero_rotation, axes_equal, has_no_effect, no_effect_piece_row, neutral_axes_row, negative_row, deprecated_piece_row, block_aperture_row, deprecated_pieces, pieces_from_attributes, pieces_from_polarity, has_several_pieces, last_byte, before_last, pieces, piece, extended_meaning};
 
 use crate::aperture::{read_define, read_macro};
-use crate::command::{AttributeKind, Command, Format, ItemCommands, ItemRow, StepRepeat};
+use crate::command::{
+    AttributeKind, Command, Format, ItemCommands, ItemRow, StepRepeat, item_answer,
+};
 use crate::fields::{digits_field, number_field, strip_prefix};
 use crate::negative::{contains, is_negative_image};
 use crate::number::read_nat;
@@ -411,18 +413,16 @@ fn read_from_attributes(alloc: Global, text: &[u8]) -> Result<ItemCommands, Item
     ensures { Gives result (first_match (pieces_from_attributes text.now)) }
 {
     if let Some(rest) = strip_prefix(b"TF", text) {
-        return read_file_attribute(alloc, rest);
+        read_file_attribute(alloc, rest)
+    } else if let Some(rest) = strip_prefix(b"TA", text) {
+        read_attribute(alloc, AttributeKind::Aperture, rest)
+    } else if let Some(rest) = strip_prefix(b"TO", text) {
+        read_attribute(alloc, AttributeKind::Object, rest)
+    } else if let Some(rest) = strip_prefix(b"TD", text) {
+        read_removal(alloc, rest)
+    } else {
+        item_answer(read_deprecated_pieces(text))
     }
-    if let Some(rest) = strip_prefix(b"TA", text) {
-        return read_attribute(alloc, AttributeKind::Aperture, rest);
-    }
-    if let Some(rest) = strip_prefix(b"TO", text) {
-        return read_attribute(alloc, AttributeKind::Object, rest);
-    }
-    if let Some(rest) = strip_prefix(b"TD", text) {
-        return read_removal(alloc, rest);
-    }
-    Ok(read_deprecated_pieces(text)?)
 }
 
 /// Reads the rows from polarity on.
@@ -430,18 +430,16 @@ fn read_from_polarity(alloc: Global, text: &[u8]) -> Result<ItemCommands, ItemFa
     ensures { Gives result (first_match (pieces_from_polarity text.now)) }
 {
     if let Some(answer) = read_polarity(text) {
-        return Ok(answer?);
+        item_answer(answer)
+    } else if let Some(answer) = read_mirror(text) {
+        item_answer(answer)
+    } else if let Some(answer) = read_transform(text) {
+        item_answer(answer)
+    } else if let Some(answer) = read_repeat(text) {
+        item_answer(answer)
+    } else {
+        read_from_attributes(alloc, text)
     }
-    if let Some(answer) = read_mirror(text) {
-        return Ok(answer?);
-    }
-    if let Some(answer) = read_transform(text) {
-        return Ok(answer?);
-    }
-    if let Some(answer) = read_repeat(text) {
-        return Ok(answer?);
-    }
-    read_from_attributes(alloc, text)
 }
 
 /// Reads all rows of pieces.
@@ -449,21 +447,18 @@ fn read_pieces(alloc: Global, text: &[u8]) -> Result<ItemCommands, ItemFail>
     ensures { Gives result (first_match (pieces text.now)) }
 {
     if let Some(answer) = read_system(text) {
-        return Ok(answer?);
+        item_answer(answer)
+    } else if let Some(answer) = read_format(text) {
+        item_answer(answer)
+    } else if let Some(answer) = read_unit(text) {
+        item_answer(answer)
+    } else if let Some(rest) = strip_prefix(b"ADD", text) {
+        read_define(alloc, rest)
+    } else if let Some(rest) = strip_prefix(b"AM", text) {
+        read_macro(alloc, rest)
+    } else {
+        read_from_polarity(alloc, text)
     }
-    if let Some(answer) = read_format(text) {
-        return Ok(answer?);
-    }
-    if let Some(answer) = read_unit(text) {
-        return Ok(answer?);
-    }
-    if let Some(rest) = strip_prefix(b"ADD", text) {
-        return read_define(alloc, rest);
-    }
-    if let Some(rest) = strip_prefix(b"AM", text) {
-        return read_macro(alloc, rest);
-    }
-    read_from_polarity(alloc, text)
 }
 
 /// Reads what stands before the last `*`: one piece, or a macro with its pieces.

@@ -10,7 +10,9 @@ ghost use Rattle.gerber_commands.specs.Words.{no_effect_row, comment, split_mode
 ghost use Rattle.gerber_commands.specs.Rows.{first_match};
 ghost use Rattle.gerber_commands.specs.Inner.Runs.{fields_of};
 
-use crate::command::{Action, Command, Interpolation, ItemCommands, ItemRow, QuadrantMode};
+use crate::command::{
+    Action, Command, Interpolation, ItemCommands, ItemRow, QuadrantMode, item_answer,
+};
 use crate::fields::{digits_field, number_field, strip_prefix};
 use crate::negative::{contains, is_negative_comment};
 use crate::number::{read_int, read_nat};
@@ -400,13 +402,12 @@ pub fn read_word(alloc: Global, plotting: bool, text: &[u8]) -> Result<ItemComma
     ensures { Gives result (word plotting text.now) }
 {
     if contains(text, b'%') {
-        return Err(ItemFail::Refused(Reason::BadWord));
+        Err(ItemFail::Refused(Reason::BadWord))
+    } else if let Some(answer) = read_no_effect(text) {
+        item_answer(answer)
+    } else if let Some(comment) = strip_prefix(b"G04", text) {
+        read_comment(alloc, comment)
+    } else {
+        item_answer(read_after_comment(plotting, text))
     }
-    if let Some(answer) = read_no_effect(text) {
-        return Ok(answer?);
-    }
-    if let Some(comment) = strip_prefix(b"G04", text) {
-        return read_comment(alloc, comment);
-    }
-    Ok(read_after_comment(plotting, text)?)
 }

@@ -3,20 +3,9 @@ use Rattle.gerber_text.proofs.Common.{◌≡◌, ℕ, zero, suc, ◌+◌, ◌-�
 use Rattle.std.proofs.Math.Nat.{pow-le-pow_right}
 use Rattle.grid_units.proofs.DigitLemmas.{value_lt, to_units_is, filled_lt}
 use Rattle.gerber_commands.proofs.NumberLemmas.{value_significant}
+use Rattle.gerber_commands.proofs.RowLemmas.{guarded, refused, allowed}
 
 -- ---- what a test let through
-
-guarded : {A : Type 0} (t : Bool) (x y : A) (e : Reason) → cond t (Ok x) (Err e) ≡ Ok y → (t ≡ true) × (x ≡ y)
-guarded true x y e h = (refl, cc)
-guarded false x y e h = absurd cc
-
-refused : {A : Type 0} (t : Bool) (r : Result A Reason) (y : A) (e : Reason) → cond t (Err e) r ≡ Ok y → (t ≡ false) × (r ≡ Ok y)
-refused true r y e h = absurd cc
-refused false r y e h = (refl, h)
-
-allowed : {A : Type 0} (t : Bool) (r : Result A Reason) (y : A) (e : Reason) → cond t r (Err e) ≡ Ok y → (t ≡ true) × (r ≡ Ok y)
-allowed true r y e h = (refl, h)
-allowed false r y e h = absurd cc
 
 -- ---- parts of lists that pass a test
 

@@ -1,7 +1,10 @@
 -- What a whole text shows and reads as, from what a reader holds.
-use Rattle.gerber_text.proofs.Common.{◌≡◌, ℕ, suc, ◌+◌, ◌<◌, ◌≤◌, Bool, true, false, cond, ltb, List, [], ◌∷◌, ◌++◌, length, take, Result, Ok, Err, sym, ap, subst, ◌∙◌, arith, append_assoc, inl, inr, list_all, take_all, take_at, length-append, lt-ltb, le-ltb, false≢true, Profile, Fault, Fail, TooLong, Truncated, Progress, OffsetByte, offset_bytes, bytes_of, first_offset, has_end, Splits, ◌>>=◌, fault, Answers, AnswersAlways, Entries, commands_by, shown_by, ShowsIn, entries_at_end, ReadsIn, is_blank, SpellsPrefixIn, SpellsBeforeFaultIn, ReadsUpToFault, entries_of, entries_after, Holds, FailsOnBytes, Refuses, FailsWithIn, RefusesText, Ends, bind_err, guard_err, text_limit}
+use Rattle.gerber_text.proofs.Common.{◌≡◌, ℕ, suc, ◌+◌, ◌<◌, ◌≤◌, Bool, true, false, cond, ltb, List, [], ◌∷◌, ◌++◌, length, take, Result, Ok, Err, None, Some, sym, ap, subst, ◌∙◌, arith, append_assoc, inl, inr, list_all, take_all, take_at, length-append, lt-ltb, le-ltb, false≢true, Profile, Fault, Fail, TooLong, Truncated, Progress, OffsetByte, offset_bytes, bytes_of, first_offset, has_end, Splits, ◌>>=◌, fault, Answers, AnswersAlways, Entries, commands_by, shown_by, ShowsIn, entries_at_end, ReadsIn, is_blank, SpellsPrefixIn, SpellsBeforeFaultIn, ReadsUpToFault, entries_of, entries_after, Holds, FailsOnBytes, Refuses, FailsWithIn, RefusesText, Ends, bind_err, guard_err, text_limit}
 use Rattle.grid_units.specs.declared.fault.Fail.TheVariants as fails
 use Rattle.gerber_text.proofs.ShowsLemmas.{kept_all}
+
+pub never : (a : Fail) → Some a ≡ None → ⊥
+never a h = cc
 
 -- the length is checked last: where the first bytes of a text show a fault, the whole shows it too
 checks_len : ℕ → List (List OffsetByte) → Entries → Result Entries Fault

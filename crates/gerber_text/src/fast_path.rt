@@ -13,7 +13,7 @@ use grid_units::OptionalInteger;
 use grid_units::numbers::{is_negative, without_sign};
 
 /// An operation, the interpolation before it, if there is one, and how many bytes its item takes.
-#[derive(Clone, Copy, PartialEq, Eq)]
+#[derive(Clone, Copy)]
 pub struct LeadingOperation {
     pub mode: Option<Interpolation>,
     pub action: Action,
@@ -51,17 +51,6 @@ fn first_coordinate(letter: u8, bytes: &[u8]) -> Option<(Option<i64>, &[u8])>
         }
         _ => Some((None, bytes)),
     }
-}
-
-/// The two coordinates at the start of these bytes, each where its letter stands, and the bytes after them.
-#[inline(always)]
-fn first_pair(letters: (u8, u8), bytes: &[u8]) -> Option<(Option<i64>, Option<i64>, &[u8])>
-    ensures value { IfSome result (λ (first, second, rest). (between : List ℕ) × HasLeadingCoordinate letters.0 bytes.now first between × HasLeadingCoordinate letters.1 between second rest.now) }
-    ensures kept { IfSome result (λ (first, second, _). (first ≢ Some omitted_integer) × (second ≢ Some omitted_integer)) }
-{
-    let (first, between) = first_coordinate(letters.0, bytes)?;
-    let (second, rest) = first_coordinate(letters.1, between)?;
-    Some((first, second, rest))
 }
 
 /// The operation code at the start of these bytes, if `D01*`, `D02*` or `D03*` stands there.
@@ -133,8 +122,10 @@ pub fn leading_operation(bytes: &[u8]) -> Option<LeadingOperation>
     ensures { IfSome result (λ found. HasLeadingOperation bytes.now found.len (modes_of found.mode ++ Operate found.action found.x found.y found.i found.j ∷ [])) }
 {
     let (mode, after_mode) = first_mode(bytes);
-    let (x, y, after_y) = first_pair((b'X', b'Y'), after_mode)?;
-    let (i, j, code) = first_pair((b'I', b'J'), after_y)?;
+    let (x, after_x) = first_coordinate(b'X', after_mode)?;
+    let (y, after_y) = first_coordinate(b'Y', after_x)?;
+    let (i, after_i) = first_coordinate(b'I', after_y)?;
+    let (j, code) = first_coordinate(b'J', after_i)?;
     let action = first_action(code)?;
     if !may_stand(mode, action, x, y, i, j) {
         return None;

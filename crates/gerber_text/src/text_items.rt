@@ -8,7 +8,7 @@ use gerber_commands::{AttributeKind, contains, is_negative_comment, is_negative_
 use grid_units::ITEM_LIMIT;
 
 /// What a text is in: a comment, an attribute, or the removal of attributes.
-#[derive(Clone, Copy, PartialEq, Eq)]
+#[derive(Clone, Copy)]
 pub enum TextKind {
     /// `G04`, the text and `*`.
     Comment,
@@ -19,7 +19,7 @@ pub enum TextKind {
 }
 
 /// A comment or an attribute, the length of its text, and how many bytes its item takes.
-#[derive(Clone, Copy, PartialEq, Eq)]
+#[derive(Clone, Copy)]
 pub struct LeadingText {
     pub kind: TextKind,
     pub text_len: usize,

@@ -135,14 +135,6 @@ pub parse_decimal_ok : (text : List ℕ) (v : ℤ) → is_decimal text ≡ true 
 unfolding parse_decimal
 parse_decimal_ok text v d c l e = ap (λ (z : ℤ). Ok z) e ∙ sym (λ i. cond (d i) (cond (c i) (cond (l i) (Err TooFar) (Ok (signed_value text (to_units (value_without_point text) (length (fraction text)))))) (Err TooFine)) (Err BadNumber))
 
-pub parse_decimal_too_far : (text : List ℕ) → is_decimal text ≡ true → fits_eight_decimals (fraction text) ≡ true → ltb 999999 (value (whole text)) ≡ true → Err TooFar ≡ parse_decimal text
-unfolding parse_decimal
-parse_decimal_too_far text d c l = sym (λ i. cond (d i) (cond (c i) (cond (l i) (Err TooFar) (Ok (signed_value text (to_units (value_without_point text) (length (fraction text)))))) (Err TooFine)) (Err BadNumber))
-
-pub parse_decimal_too_fine : (text : List ℕ) → is_decimal text ≡ true → fits_eight_decimals (fraction text) ≡ false → Err TooFine ≡ parse_decimal text
-unfolding parse_decimal
-parse_decimal_too_fine text d c = sym (λ i. cond (d i) (cond (c i) (cond (ltb 999999 (value (whole text))) (Err TooFar) (Ok (signed_value text (to_units (value_without_point text) (length (fraction text)))))) (Err TooFine)) (Err BadNumber))
-
 -- the value of the parts that were read
 pub read_value : (text w f : List ℕ) (n : ℕ) → w ≡ whole text → f ≡ fraction text → fits_eight_decimals f ≡ true → n ≡ value w → signed_value text (n * 10 ^ 8 + value (take 8 f) * 10 ^ (8 - length (take 8 f))) ≡ signed_value text (to_units (value_without_point text) (length (fraction text)))
 read_value text w f n ws fs c e =

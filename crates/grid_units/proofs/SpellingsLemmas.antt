@@ -74,10 +74,6 @@ minus_short (negsuc n) = lit≤ tt
 
 -- ---- zeros at the end
 
-trimmed_at : (d : ℕ) (ds : List ℕ) → without_end_zeros (d ∷ ds) ≡ cond (eqb d 48 && eqb (length (without_end_zeros ds)) 0) [] (d ∷ without_end_zeros ds)
-unfolding without_end_zeros
-trimmed_at d ds = refl
-
 empty_by_length : (xs : List ℕ) → length xs ≡ 0 → xs ≡ []
 empty_by_length [] h = refl
 empty_by_length (x ∷ xs) h = absurd (omega arith)

@@ -17,7 +17,7 @@ const MAX_UNITS: u64 = 99_999_999_999_999;
 
 /// A decimal of at most eight places: a whole number of 10^-8, at most 99,999,999,999,999 in absolute
 /// value. Contracts see that whole number.
-#[derive(Clone, Copy, Debug, PartialEq, Eq)]
+#[derive(Clone, Copy, PartialEq, Eq)]
 pub struct Dec {
     units: i64,
 }

@@ -7,7 +7,7 @@ use crate::fault::Reason;
 use std::alloc::AllocError;
 
 /// Why an item, a line or a command has no result: a [`Fail`](crate::Fail) without its place, which the caller adds.
-#[derive(Clone, Copy, Debug, PartialEq, Eq)]
+#[derive(Clone, Copy)]
 pub enum ItemFail {
     /// An allocation failed.
     Memory,

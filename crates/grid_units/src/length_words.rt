@@ -32,7 +32,7 @@ fn write_decimals<W: fmt::Write>(f: &mut Formatter<W>, below: u32) -> fmt::Resul
 }
 
 /// A length in pm, printed in millimetres with nine decimals: `-0.125000000`.
-#[derive(Clone, Copy, PartialEq, Eq)]
+#[derive(Clone, Copy)]
 pub struct Millimetres(pub i64);
 
 impl Display for Millimetres {
@@ -92,7 +92,7 @@ fn write_short_decimals<W: fmt::Write>(f: &mut Formatter<W>, below: u32) -> fmt:
 }
 
 /// A length in pm, printed in millimetres without the zeros at the end of its decimals, and without a point where none is left: `0.125`.
-#[derive(Clone, Copy, PartialEq, Eq)]
+#[derive(Clone, Copy)]
 pub struct ShortMillimetres(pub i64);
 
 impl Display for ShortMillimetres {

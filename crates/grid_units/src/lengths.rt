@@ -8,7 +8,7 @@ use crate::fault::Reason;
 use crate::points::MAX_COORDINATE;
 
 /// The unit of a file's lengths.
-#[derive(Clone, Copy, Debug, PartialEq, Eq)]
+#[derive(Clone, Copy, PartialEq, Eq)]
 pub enum Unit {
     /// An inch, 25,400,000,000 pm.
     Inch,

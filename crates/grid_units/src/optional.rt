@@ -10,7 +10,7 @@ const OMITTED: i64 = i64::MIN;
 
 /// An integer, or that it is left out. It takes eight bytes, since a file has many; contracts see the optional
 /// integer.
-#[derive(Clone, Copy, Debug, PartialEq, Eq)]
+#[derive(Clone, Copy, PartialEq, Eq)]
 pub struct OptionalInteger {
     value: i64,
 }

@@ -12,7 +12,7 @@ use std::marker::Model;
 
 /// The copper that must stand round a plated hole (the annular ring), and the gap that must stand
 /// between two holes, in pm; and the profile in which the board is read.
-#[derive(Clone, Copy, Debug, PartialEq, Eq)]
+#[derive(Clone, Copy)]
 pub struct Rules {
     ring: u64,
     gap: u64,

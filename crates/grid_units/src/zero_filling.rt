@@ -9,7 +9,7 @@ use crate::lengths::power_of_ten;
 use crate::numbers::{capped_value, is_digits, is_negative, without_sign};
 
 /// Which zeros the coordinates of a drill file keep, where they have no point.
-#[derive(Clone, Copy, Debug, PartialEq, Eq)]
+#[derive(Clone, Copy, PartialEq, Eq)]
 pub enum Zeros {
     /// Leading zeros are kept (`LZ`): digits left out at the end are zeros.
     Leading,

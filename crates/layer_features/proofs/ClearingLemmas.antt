@@ -1,5 +1,5 @@
 -- What one more command changes of the positions that count and of those that do not.
-use Rattle.layer_features.proofs.Common.{◌≡◌, ◌∙◌, ℕ, ◌+◌, ◌&&◌, ◌||◌, Bool, true, false, not, List, [], ◌∷◌, ◌++◌, ◌-◌, cond, drop, take, refl, ap, sym, length, arith, append-nil, append_assoc, length-append, if◌then◌else◌, list_any, prefix_len, reverse-append, take_all, take-append-drop, with_prefixes, with_prefixes_from, last_or-more, list_any-more, with_prefixes-append, Command, after_last, up_to_last, block_after, changes_block, in_open_block, is_repeated, positions_up_to_clearing, clears_all, draws, is_clear_after, is_clearing, polarity_set, positions_after_clearing, clearing_after, clearing_with}
+use Rattle.layer_features.proofs.Common.{◌≡◌, ◌∙◌, ℕ, ◌+◌, ◌&&◌, ◌||◌, Bool, true, false, not, List, [], ◌∷◌, ◌++◌, ◌-◌, cond, drop, take, refl, ap, sym, length, arith, append-nil, append_assoc, length-append, if◌then◌else◌, list_any, prefix_len, reverse-append, take_all, take-append-drop, with_prefixes, with_prefixes_from, last_or-more, list_any-more, with_prefixes-append, Command, after_last, up_to_last, changes_block, in_open_block, is_repeated, positions_up_to_clearing, clears_all, draws, is_clear_after, is_clearing, polarity_set, positions_after_clearing, clearing_after, clearing_with, state_after}
 use Rattle.std.specs.Prelude.{unwrap_or}
 use Rattle.std.specs.List.{suffix_len}
 use Rattle.std.proofs.lemmas.List.{drop-append-le, drop_all, take-append-le}
@@ -94,7 +94,7 @@ none_from : (before cs : List Command) → clearing_after before ≡ dark → li
 none_from before [] is h = refl
 none_from before (c ∷ cs) is h =
     let both = or_is_false (is_clear c) (list_any is_clear cs) h in
-    let here : clears_all (before, c) ≡ false = (λ i. (draws c && (is i).clear) || (is_repeated (block_after before) && (is i).in_block)) ∙ nothing_cleared (draws c) (is_repeated (block_after before)) in
+    let here : clears_all (before, c) ≡ false = (λ i. (draws c && (is i).clear) || (is_repeated (state_after before).block && (is i).in_block)) ∙ nothing_cleared (draws c) (is_repeated (state_after before).block) in
     let later = none_from (before ++ c ∷ []) cs (clearing_after-more before c ∙ ap (clearing_with c) is ∙ still_dark c both.0) both.1 in
     λ i. here i || later i
 

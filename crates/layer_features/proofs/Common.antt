@@ -10,28 +10,30 @@ unfoldable pub use Rattle.grid_units.specs.Numbers.{parse_decimal, within_limit}
 pub use Rattle.grid_units.specs.Points.{GridPoint, square}
 pub use Rattle.grid_units.specs.declared.lengths.Unit.TheVariants.{Millimetre}
 pub use Rattle.layer_features.specs.AfterLast.{up_to_last}
-pub use Rattle.layer_features.specs.Blocks.{block_after, copy_count, in_open_block, is_repeated}
+pub use Rattle.layer_features.specs.Blocks.{copy_count, in_open_block, is_repeated}
 pub use Rattle.layer_features.specs.Clearing.{positions_up_to_clearing, clears_all, draws, is_clear_after, is_clearing, is_drawing, polarity_set, positions_after_clearing}
 pub use Rattle.layer_features.specs.Contours.{PlotState, contour_of, ends_of, is_clockwise, is_counterclockwise, is_move, part_by, part_of, points_of, polygon_by, region_parts, sides_of, starts_region}
 pub use Rattle.layer_features.specs.CopperLaws.{ContoursAreInsideEdges, FlashedShapesAreInPrimitives, LegalWidePads, UnclearedPositions, WidePadsAreUnique}
-pub use Rattle.layer_features.specs.Drawn.{DrawState, aperture_numbered, decimals_set, draw_state_after, draw_unit, drawn_aperture_set, drawn_by, macro_named, macro_set, mirroring_set, mode_set, near, operation_point, point_at, primitives_shape, quadrant_set, stays_near, within_limits}
+pub use Rattle.layer_features.specs.Drawn.{DrawState, draw_state_after, drawn_by, mirroring_set, mode_set, near, operation_point, point_at, quadrant_set, selected_shape, stays_near}
 pub use Rattle.layer_features.specs.Features.{added_features, contour_count, contour_feature, counts_of, dark_kind, features_at, flash_feature, flashed_count, is_contour, is_flashed_pad, is_other, other_count, pad_in, pads_of, taken_away, taken_kind, wide_features_of}
-pub use Rattle.layer_features.specs.FurtherPads.{CopperState, clearing_after, clears_in, contours_in, copper_state_after, ended_copies, ended_regions, flash_shape, has_room, is_room, macro_shape, macro_why, plot_state}
+pub use Rattle.layer_features.specs.FurtherPads.{CopperState, clearing_after, clears_in, contours_in, copper_state_after, ended_copies, ended_regions, flash_shape, has_room, is_room, macro_why, plot_state}
 pub use Rattle.layer_features.specs.Inner.Forgetting.{is_over, starts_no_pad, starts_no_polygon}
-pub use Rattle.layer_features.specs.Inner.Pencils.{after_command, draw_state, macro_at}
-pub use Rattle.layer_features.specs.Inner.States.{IsLike, MakeSameContour, after, with_capped_regions, clearing_with, copper_state, parts_after, with_parts}
-pub use Rattle.layer_features.specs.Inner.Steps.{AreWidePadsOf, changes_block, clockwise_round, counterclockwise_round, in_last_region, is_no_move, leading_sides, macro_len, max_regions, polygon_of_sides}
+pub use Rattle.layer_features.specs.Inner.Plotters.{Selection, after_command, draw_state, pencil_state, selection, selection_after}
+pub use Rattle.layer_features.specs.Inner.States.{IsLike, MakeSameContour, after, with_capped_regions, clearing_with, copper_state, parts_after, takes_part, with_parts}
+pub use Rattle.layer_features.specs.Inner.Steps.{AreWidePadsOf, changes_block, clockwise_round, counterclockwise_round, in_last_region, is_no_move, leading_sides, max_regions, polygon_of_sides}
 pub use Rattle.layer_features.specs.Inner.Turns.{turns_both_ways, turns_left, turns_right}
 pub use Rattle.layer_features.specs.Kept.{KeepsFeatures, first_taken_away, keeps_drawn, keeps_rows, left_pads}
 pub use Rattle.layer_features.specs.WidePads.{AreDarkPads, AreWideFlashPads, AreWidePads, AreWidePadsAt, IsMacroShape, IsSelectedShape, IsTemplateShape, contour_after, contours_at, plot_state_after, point_in, template_set, wide_pad_at}
 pub use Rattle.layer_features.specs.declared.feature.Feature.{Feature}
 pub use Rattle.layer_features.specs.declared.part.Part.{Part}
 pub use Rattle.layer_state.specs.Flashes.{added_flashes, aperture_flashes, copies, copies_at, current_unit, disc_at, flash_at, flashes_of, numbers_below, obround_at, quarter, rect_at, swaps_sides, what_at}
-pub use Rattle.layer_state.specs.Lookback.{GraphicsState, aperture_selected, block_set, current_aperture, definition_set, format_set, has_hole, no_repeat, region_set, scale_set, size_at, state_after, turn_set, unit_set, x_set, y_set}
+pub use Rattle.layer_state.specs.Lookback.{GraphicsState, aperture_selected, block_set, current_aperture, current_of, definition_set, format_set, has_hole, no_repeat, region_set, scale_set, size_at, state_after, turn_set, unit_set, x_set, y_set}
 pub use Rattle.layer_state.specs.Pads.{MayFlash, copies_in, pad_at}
 pub use Rattle.layer_state.specs.Placing.{copy_in, in_order, is_turned_over, mirrored_point, no_mirroring, oriented_point, shapes_at, turned_point}
 pub use Rattle.layer_state.specs.Rules.{all_rules, breaks_rule, broken_rule}
 unfoldable pub use Rattle.layer_state.specs.Rules.{first_broken}
+pub use Rattle.layer_state.specs.Shapes.{defined_numbered, macro_named, primitives_shape, selected_after, within_limits}
+pub use Rattle.layer_state.specs.declared.current.Current.{Current}
 pub use Rattle.layer_state.specs.declared.flash.Flash.{Flash}
 pub use Rattle.macro_shapes.specs.Primitives.{are_different, is_closed, is_same, moves, polygon_of, polygon_round, stops}
 pub use Rattle.pad_shapes.specs.Placed.{is_near, moved_point, moved_shape, shape_at}

@@ -1,5 +1,5 @@
 -- What the rules of a legal list say of a flash, and which pad it leaves.
-use Rattle.layer_features.proofs.Common.{◌≡◌, ℕ, zero, suc, ◌<◌, get_or, arith, ◌%◌, ◌&&◌, ◌==◌, not, ℤ, unsigned_abs, Bool, true, false, cond, List, [], ◌∷◌, length, Option, None, Some, unwrap_or, refl, sym, ap, subst, ◌∙◌, is_none, option_map_or, option_or, int_eq, find, cons_option, picometres, GridPoint, Millimetre, Command, Format, unit_scale, GraphicsState, definition_set, copies, copies_at, current_unit, disc_at, obround_at, quarter, rect_at, swaps_sides, what_at, MayFlash, copies_in, pad_at, all_rules, breaks_rule, first_broken}
+use Rattle.layer_features.proofs.Common.{◌≡◌, ℕ, zero, suc, ◌<◌, get_or, arith, ◌%◌, ◌&&◌, ◌==◌, not, ℤ, unsigned_abs, Bool, true, false, cond, List, [], ◌∷◌, length, Option, None, Some, unwrap_or, refl, sym, ap, subst, ◌∙◌, is_none, option_map_or, option_or, int_eq, find, cons_option, picometres, GridPoint, Millimetre, Command, Format, unit_scale, GraphicsState, definition_set, copies, copies_at, current_of, current_unit, disc_at, obround_at, quarter, rect_at, swaps_sides, what_at, MayFlash, copies_in, pad_at, all_rules, breaks_rule, first_broken}
 use Rattle.std.specs.Option.{option_map, option_and_then}
 use Rattle.grid_units.specs.declared.fault.Reason.TheVariants as reason
 use Rattle.grid_units.specs.declared.lengths.Unit.{Unit as Units}
@@ -41,7 +41,7 @@ pad_is p unit scale turn shape = no_pad (int_eq scale unit_scale && (unsigned_ab
 -- ---- the state of a flash
 
 -- the unit is the one that was named
-pub unit_is : (s : GraphicsState) (unit : Units) (format : Format) (shape : Aperture) → MayFlash s unit format shape → current_unit s ≡ unit
+pub unit_is : (s : GraphicsState) (unit : Units) (format : Format) (shape : Aperture) → MayFlash s unit format shape → current_unit (current_of s) ≡ unit
 unit_is s unit format shape may = λ i. unwrap_or (may.in_unit i) Millimetre
 
 -- the copies are those in the unit and the format that were named

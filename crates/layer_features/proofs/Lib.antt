@@ -1,5 +1,4 @@
 pub mod Common
-pub mod DrawnLemmas
 pub mod ClearingLemmas
 pub mod StandingLemmas
 pub mod KeptFeaturesLemmas

@@ -1,5 +1,5 @@
 -- What a plot in a region meets where no rule is broken, and the parts of the region.
-use Rattle.layer_features.proofs.Common.{◌≡◌, ◌∙◌, ℕ, ℤ, unsigned_abs, Bool, true, false, not, ◌&&◌, nat_le, nat_lt, List, [], ◌∷◌, ◌++◌, length, Option, None, Some, unwrap_or, refl, sym, ap, arith, if◌then◌else◌, is_none, option_map, option_or, cons_option, last_set, picometres, GridPoint, Millimetre, last_set-more, Command, Format, format_set, state_after, unit_set, flashes_of, broken_rule, Part, PlotState, part_by, region_parts, starts_region, decimals_set, draw_state_after, near, operation_point, point_at, plot_state, plot_state_after, point_in}
+use Rattle.layer_features.proofs.Common.{◌≡◌, ◌∙◌, ℕ, ℤ, unsigned_abs, Bool, true, false, not, ◌&&◌, nat_le, nat_lt, List, [], ◌∷◌, ◌++◌, length, Option, None, Some, unwrap_or, refl, sym, ap, arith, if◌then◌else◌, is_none, option_map_or, option_or, cons_option, last_set, picometres, GridPoint, Millimetre, last_set-more, Command, Format, current_of, state_after, unit_set, flashes_of, broken_rule, Part, PlotState, part_by, region_parts, starts_region, draw_state_after, near, operation_point, point_at, plot_state, plot_state_after, point_in}
 use Rattle.std.proofs.lemmas.Bool.Decides.{nat_tests}
 use Rattle.grid_units.specs.Points.{max_coordinate}
 use Rattle.grid_units.specs.declared.lengths.Unit.{Unit as Units}
@@ -7,20 +7,12 @@ use Rattle.macro_shapes.specs.Primitives.{grid_point}
 use Rattle.gerber_commands.specs.declared.command.Command.TheVariants as command
 use Rattle.layer_features.proofs.CopperLemmas.{region_parts-more}
 use Rattle.layer_features.proofs.LegalFlashes.{keeps_rule, some_of}
-use Rattle.layer_features.proofs.SelectedShapes.{last_mapped}
 
--- what a pencil has for a plot after some commands
+-- what a plotter has for a plot after some commands
 abbrev pub drawn_plot : List Command → PlotState
 drawn_plot before = plot_state (draw_state_after before)
 
 -- ---- points
-
-one_format : (c : Command) → decimals_set c ≡ option_map (λ (f : Format). f.decimals) (format_set c)
-one_format (command.FormatIs format) = refl
-one_format c = refl
-
-decimals_are : (before : List Command) → last_set decimals_set before ≡ option_map (λ (f : Format). f.decimals) (last_set format_set before)
-decimals_are before = last_mapped format_set (λ (f : Format). f.decimals) decimals_set one_format before
 
 -- the point of these coordinates in steps of the format
 abbrev point_by : Units → ℕ → ℤ → ℤ → Option GridPoint
@@ -41,11 +33,10 @@ near_is a b =
     by false t = refl
 
 point_is : (before : List Command) (unit : Units) (format : Format) → (state_after before).unit ≡ Some unit → (state_after before).format ≡ Some format → (x y : Option ℤ)
-    → operation_point (draw_state_after before) x y ≡ point_in (state_after before).unit (state_after before).format (state_after before) x y
+    → operation_point (current_of (state_after before)) x y ≡ point_in (state_after before).unit (state_after before).format (state_after before) x y
 point_is before unit format in_unit in_format x y =
     let s = state_after before in
-    ap (λ (o : Option ℕ). point_by (unwrap_or s.unit Millimetre) (unwrap_or o 0) (unwrap_or x s.x) (unwrap_or y s.y)) (decimals_are before)
-    ∙ (λ i. point_by (unwrap_or (in_unit i) Millimetre) (unwrap_or (option_map (λ (f : Format). f.decimals) (in_format i)) 0) (unwrap_or x s.x) (unwrap_or y s.y))
+    (λ i. point_by (unwrap_or (in_unit i) Millimetre) (option_map_or (λ (f : Format). f.decimals) (in_format i) 0) (unwrap_or x s.x) (unwrap_or y s.y))
     ∙ near_is (picometres unit format.decimals (unwrap_or x s.x)) (picometres unit format.decimals (unwrap_or y s.y))
     ∙ sym (λ i. point_in (in_unit i) (in_format i) s x y)
 

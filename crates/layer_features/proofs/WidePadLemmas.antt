@@ -1,5 +1,5 @@
 -- The pads among the flashes and contours of one command are those that it makes.
-use Rattle.layer_features.proofs.Common.{◌≡◌, ◌∙◌, ◌&&◌, ◌%◌, ◌==◌, not, ℤ, unsigned_abs, Bool, true, false, cond, List, [], ◌∷◌, ◌++◌, map, length, Option, None, Some, unwrap_or, refl, ap, arith, append-nil, if◌then◌else◌, option_map, option_map_or, int_eq, cons_option, filter_map, GridPoint, Millimetre, GridRounded, WidePad, Command, Format, unit_scale, Flash, added_flashes, aperture_flashes, copies_at, current_unit, disc_at, flash_at, flashes_of, obround_at, quarter, rect_at, swaps_sides, what_at, state_after, MayFlash, copies_in, shapes_at, broken_rule, Part, block_after, is_clear_after, contour_of, region_parts, contour_feature, dark_kind, features_at, flash_feature, pad_in, pads_of, CopperState, contours_in, copper_state_after, ended_regions, has_room, is_room, macro_shape, macro_why, AreDarkPads, AreWidePadsOf, contour_after, contours_at, plot_state_after, wide_pad_at}
+use Rattle.layer_features.proofs.Common.{◌≡◌, ◌∙◌, ◌&&◌, ◌%◌, ◌==◌, not, ℤ, unsigned_abs, Bool, true, false, cond, List, [], ◌∷◌, ◌++◌, map, length, Option, None, Some, unwrap_or, refl, ap, arith, append-nil, if◌then◌else◌, option_map, option_map_or, int_eq, cons_option, filter_map, GridPoint, Millimetre, GridRounded, WidePad, Command, Format, unit_scale, Flash, added_flashes, aperture_flashes, copies_at, current_of, current_unit, disc_at, flash_at, flashes_of, obround_at, quarter, rect_at, swaps_sides, what_at, state_after, MayFlash, copies_in, shapes_at, broken_rule, Part, is_clear_after, contour_of, region_parts, contour_feature, dark_kind, features_at, flash_feature, pad_in, pads_of, CopperState, contours_in, copper_state_after, ended_regions, has_room, is_room, selected_shape, draw_state_after, macro_why, AreDarkPads, AreWidePadsOf, contour_after, contours_at, plot_state_after, wide_pad_at}
 use Rattle.std.specs.Bool.{MatchBool}
 use Rattle.grid_units.specs.declared.lengths.Unit.{Unit as Units}
 use Rattle.pad_shapes.specs.declared.pad.Pad.{Pad}
@@ -15,7 +15,7 @@ use Rattle.layer_state.specs.declared.flash.What.TheVariants as what
 use Rattle.layer_features.specs.declared.feature.FeatureKind.TheVariants as kind
 use Rattle.layer_features.proofs.LegalFlashes.{IsDefined, copies_are, keeps_rule, may_flash, some_of, unit_is}
 use Rattle.layer_features.proofs.PlotLemmas.{PartsAgree}
-use Rattle.layer_features.proofs.SelectedShapes.{selected_shape}
+use Rattle.layer_features.proofs.SelectedShapes.{shape_is_selected}
 
 -- ---- one flash
 
@@ -36,7 +36,7 @@ shape_pad s (Some pad) = refl
 
 -- the flash of an aperture leaves the pad of the relation
 pad_is : (before : List Command) (unit : Units) (selected : Aperture) (p : GridPoint)
-    → pad_in (dark_kind (copper_state_after before) p (what_at p unit (state_after before).scale (state_after before).turn selected)) ≡ wide_pad_at unit before selected (macro_shape (copper_state_after before)) p
+    → pad_in (dark_kind (copper_state_after before) p (what_at p unit (state_after before).scale (state_after before).turn selected)) ≡ wide_pad_at unit before selected (selected_shape (draw_state_after before)) p
 pad_is before unit aperture.Macro p = shape_pad (copper_state_after before) _
 pad_is before unit (aperture.Circle diameter false) p =
     by_scale_and_turn (copper_state_after before) p (int_eq (state_after before).scale unit_scale) (unsigned_abs (state_after before).turn % quarter == 0) (pads.Disc (disc_at p unit diameter))
@@ -55,21 +55,21 @@ none_in_clear s clear [] = refl
 none_in_clear s clear (f ∷ fs) = λ i. cons_option (pad_in (if clear i then kind.Clear else dark_kind s f.at f.what)) (none_in_clear s clear fs i)
 
 in_dark : (before : List Command) (selected : Aperture) → is_clear_after before ≡ false → (ps : List GridPoint)
-    → pads_of (map (flash_feature (copper_state_after before)) (map (flash_at (state_after before) selected) ps)) ≡ filter_map (wide_pad_at (current_unit (state_after before)) before selected (macro_shape (copper_state_after before))) ps
+    → pads_of (map (flash_feature (copper_state_after before)) (map (flash_at (state_after before) selected) ps)) ≡ filter_map (wide_pad_at (current_unit (current_of (state_after before))) before selected (selected_shape (draw_state_after before))) ps
 in_dark before selected dark [] = refl
 in_dark before selected dark (p ∷ ps) =
-    let w = what_at p (current_unit (state_after before)) (state_after before).scale (state_after before).turn selected in
-    let one = ap (λ (b : Bool). pad_in (if b then kind.Clear else dark_kind (copper_state_after before) p w)) dark ∙ pad_is before (current_unit (state_after before)) selected p in
+    let w = what_at p (current_unit (current_of (state_after before))) (state_after before).scale (state_after before).turn selected in
+    let one = ap (λ (b : Bool). pad_in (if b then kind.Clear else dark_kind (copper_state_after before) p w)) dark ∙ pad_is before (current_unit (current_of (state_after before))) selected p in
     λ i. cons_option (one i) (in_dark before selected dark ps i)
 
 flash_pads : (before : List Command) (x y i j : Option ℤ) (unit : Units) (format : Format) (selected : Aperture) → is_clear_after before ≡ false → MayFlash (state_after before) unit format selected
-    → pads_of (features_at (before, command.Operate action.Flash x y i j)) ≡ filter_map (wide_pad_at unit before selected (macro_shape (copper_state_after before))) (copies_in unit format (state_after before) x y)
+    → pads_of (features_at (before, command.Operate action.Flash x y i j)) ≡ filter_map (wide_pad_at unit before selected (selected_shape (draw_state_after before))) (copies_in unit format (state_after before) x y)
 flash_pads before x y i j unit format selected dark may =
     let s = state_after before in
     ap pads_of (append-nil (map (flash_feature (copper_state_after before)) (added_flashes s (command.Operate action.Flash x y i j))))
     ∙ ap (λ (o : Option Aperture). pads_of (map (flash_feature (copper_state_after before)) (option_map_or (aperture_flashes s x y) o []))) may.selected
     ∙ in_dark before selected dark (copies_at s x y)
-    ∙ (λ k. filter_map (wide_pad_at (unit_is s unit format selected may k) before selected (macro_shape (copper_state_after before))) (copies_are s x y unit format selected may k))
+    ∙ (λ k. filter_map (wide_pad_at (unit_is s unit format selected may k) before selected (selected_shape (draw_state_after before))) (copies_are s x y unit format selected may k))
 
 -- ---- the contours of a command
 
@@ -78,10 +78,10 @@ contour_pads [] = refl
 contour_pads (shape ∷ shapes) = ap (λ (l : List WidePad). Rounded shape ∷ l) (contour_pads shapes)
 
 no_contours : (s : CopperState) (c : Command) → s.clearing.clear ≡ true → contours_in s c ≡ []
-no_contours s command.RegionEnd clear = (λ i. contours_where s (s.draw.in_region && (not (clear i) && has_room s))) ∙ by s.draw.in_region
+no_contours s command.RegionEnd clear = (λ i. contours_where s (s.draw.now.in_region && (not (clear i) && has_room s))) ∙ by s.draw.now.in_region
   where
     contours_where : CopperState → Bool → List GridRounded
-    contours_where t b = option_map_or (shapes_at (unwrap_or t.draw.unit Millimetre) t.draw.block) (if b then contour_of t.parts else None) []
+    contours_where t b = option_map_or (shapes_at (unwrap_or t.draw.now.unit Millimetre) t.draw.now.block) (if b then contour_of t.parts else None) []
 
     by : (b : Bool) → contours_where s (b && false) ≡ []
     by true = refl
@@ -99,12 +99,12 @@ copied (Some unit) block b parts none = by (if b then contour_of parts else None
 copied None block true parts none = ap (λ (l : List Part). option_map_or (shapes_at Millimetre block) (contour_of l) []) (none refl)
 copied None block false parts none = refl
 
-region_pads : (before : List Command) → is_clear_after before ≡ false → PartsAgree before → contours_in (copper_state_after before) command.RegionEnd ≡ contours_at (state_after before).unit (block_after before) (contour_after before)
+region_pads : (before : List Command) → is_clear_after before ≡ false → PartsAgree before → contours_in (copper_state_after before) command.RegionEnd ≡ contours_at (state_after before).unit (state_after before).block (contour_after before)
 region_pads before dark agree =
     let s = state_after before in
-    let room = is_room (ended_regions before) (block_after before) in
-    (λ i. option_map_or (shapes_at (unwrap_or s.unit Millimetre) (block_after before)) (if s.in_region && (not (dark i) && room) then contour_of (agree.same i) else None) [])
-    ∙ copied s.unit (block_after before) (s.in_region && room) (region_parts plot_state_after before) agree.none
+    let room = is_room (ended_regions before) (state_after before).block in
+    (λ i. option_map_or (shapes_at (unwrap_or s.unit Millimetre) (state_after before).block) (if s.in_region && (not (dark i) && room) then contour_of (agree.same i) else None) [])
+    ∙ copied s.unit (state_after before).block (s.in_region && room) (region_parts plot_state_after before) agree.none
 
 -- ---- all pads of a command
 
@@ -115,7 +115,7 @@ dark_pads before (command.Operate action.Flash x y i j) defined agree legal dark
     let count = length (flashes_of before) in
     let may = may_flash s count x y i j defined legal in
     let number = some_of s.selected (keeps_rule s count c 9 legal (omega arith)) in
-    (may.0, may.1, may.2, macro_shape (copper_state_after before), may.3, selected_shape before number.0 number.1, flash_pads before x y i j may.0 may.1 may.2 dark may.3)
+    (may.0, may.1, may.2, selected_shape (draw_state_after before), may.3, shape_is_selected before number.0 number.1, flash_pads before x y i j may.0 may.1 may.2 dark may.3)
 dark_pads before command.RegionEnd defined agree legal dark = contour_pads (contours_in (copper_state_after before) command.RegionEnd) ∙ ap (map Rounded) (region_pads before dark agree)
 dark_pads before c defined agree legal dark = refl
 

@@ -1,14 +1,9 @@
 -- Step and repeat blocks (Gerber format, Step and repeat SR).
-use Rattle.std.specs.Prelude.{ℕ, ◌*◌, Bool, nat_lt, List, unwrap_or, is_some}
-use Rattle.grid_units.specs.Lists.{last_set}
+use Rattle.std.specs.Prelude.{ℕ, ◌*◌, Bool, nat_lt, List, is_some}
 use Rattle.gerber_commands.specs.declared.command.StepRepeat.{StepRepeat}
 use Rattle.gerber_commands.specs.declared.command.Command.{Command}
-use Rattle.layer_state.specs.Lookback.{block_set, no_repeat}
+use Rattle.layer_state.specs.Lookback.{block_set}
 use Rattle.std.specs.List.{after_last}
-
--- the block that is open after these commands
-abbrev pub block_after : List Command → StepRepeat
-block_after before = unwrap_or (last_set block_set before) no_repeat
 
 -- how many copies a block makes of each of its objects (Gerber format, Step and repeat SR)
 abbrev pub copy_count : StepRepeat → ℕ

@@ -7,8 +7,9 @@ use Rattle.gerber_commands.specs.declared.command.Action.{Action}
 use Rattle.gerber_commands.specs.declared.command.Action.TheVariants as action
 use Rattle.gerber_commands.specs.declared.command.Command.{Command}
 use Rattle.gerber_commands.specs.declared.command.Command.TheVariants as command
+use Rattle.layer_state.specs.Lookback.{state_after}
 use Rattle.layer_features.specs.AfterLast.{up_to_last}
-use Rattle.layer_features.specs.Blocks.{block_after, copy_count, in_open_block}
+use Rattle.layer_features.specs.Blocks.{copy_count, in_open_block}
 
 -- polarity is clear from `%LPC*%` on, and dark again from `%LPD*%` on (Gerber format, Load polarity LP)
 abbrev pub polarity_set : Command → Option Bool
@@ -37,7 +38,7 @@ is_clearing p = draws p.1 && is_clear_after p.0
 -- At this position all counts as taken away that was drawn up to it, or will be by another copy: it draws in clear polarity, or something of the block that is open did, and
 -- the block makes several copies, of which the next one takes away what stands in this one (Gerber format, Step and repeat SR).
 abbrev pub clears_all : List Command × Command → Bool
-clears_all p = is_clearing p || (nat_lt 1 (copy_count (block_after p.0)) && list_any is_clearing (in_open_block (with_prefixes p.0)))
+clears_all p = is_clearing p || (nat_lt 1 (copy_count (state_after p.0).block) && list_any is_clearing (in_open_block (with_prefixes p.0)))
 
 -- The positions that count, each command with all commands before it: those after the last one at which all counts as taken away.
 abbrev pub positions_after_clearing : List Command → List (List Command × Command)

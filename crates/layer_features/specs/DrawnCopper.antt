@@ -1,5 +1,5 @@
 -- What a layer draws that is shown as copper: clear polarity takes away what was drawn before it, as it does pads (docs/FORMATS.md, Pictures).
-use Rattle.std.specs.Prelude.{List, Option, None, if◌then◌else◌}
+use Rattle.std.specs.Prelude.{List, take, Option, None, if◌then◌else◌}
 use Rattle.std.specs.List.{filter_map}
 use Rattle.grid_units.specs.declared.profile.Profile.{Profile}
 use Rattle.grid_units.specs.declared.profile.Profile.TheVariants.{Strict, Wide}
@@ -21,7 +21,11 @@ drawn_at p = dark_part (copper_state_after p.0) p.1
 abbrev pub uncleared_drawn : List Command → List Drawn
 uncleared_drawn commands = filter_map drawn_at (positions_after_clearing commands)
 
--- what a layer of a profile draws; in the strict profile polarity is never clear
+-- the first parts of what is drawn, one more than a picture shows at most: that one tells that there are too many (docs/FORMATS.md, Pictures)
+abbrev pub first_parts : List Drawn → List Drawn
+first_parts parts = take 100001 parts
+
+-- the first parts of what a layer of a profile draws; in the strict profile polarity is never clear
 abbrev pub drawn_in : Profile → List Command → List Drawn
-drawn_in Strict commands = drawn_of commands
-drawn_in Wide commands = uncleared_drawn commands
+drawn_in Strict commands = first_parts (drawn_of commands)
+drawn_in Wide commands = first_parts (uncleared_drawn commands)

@@ -14,12 +14,14 @@ use Rattle.gerber_commands.specs.declared.command.Command.TheVariants as command
 use Rattle.gerber_commands.specs.Pieces.{unit_scale}
 use Rattle.pad_shapes.specs.declared.row.Why.{Why}
 use Rattle.pad_shapes.specs.declared.row.Why.TheVariants as why
-use Rattle.layer_features.specs.Drawn.{DrawState, draw_state_after, draw_unit, operation_point, selected_aperture, shape_in}
+use Rattle.layer_state.specs.Flashes.{current_unit}
+use Rattle.layer_state.specs.Lookback.{state_after}
+use Rattle.layer_features.specs.Drawn.{DrawState, draw_state_after, operation_point, selected_shape}
 use Rattle.pad_shapes.specs.Placed.{shape_at}
 use Rattle.layer_features.specs.declared.clearing.Clearing.{Clearing}
 use Rattle.layer_state.specs.declared.mirroring.Mirroring.{Mirroring}
 use Rattle.layer_features.specs.declared.part.Part.{Part}
-use Rattle.layer_features.specs.Blocks.{block_after, copy_count, in_open_block, is_repeated}
+use Rattle.layer_features.specs.Blocks.{copy_count, in_open_block, is_repeated}
 use Rattle.layer_features.specs.Clearing.{draws, is_clear_after, is_clearing}
 use Rattle.layer_state.specs.Placing.{oriented_shape, shapes_at}
 use Rattle.layer_features.specs.Contours.{PlotState, contour_of, region_parts}
@@ -37,11 +39,11 @@ clearing_after before = record { clear = is_clear_after before; in_block = list_
 
 -- how many regions ended, each copy counted
 abbrev pub ended_regions : List Command → ℕ
-ended_regions before = sum_by (λ p. ended_copies (block_after p.0) p.1) (with_prefixes before)
+ended_regions before = sum_by (λ p. ended_copies (state_after p.0).block p.1) (with_prefixes before)
 
 -- what of this state a plot in a region meets
 abbrev pub plot_state : DrawState → PlotState
-plot_state s = record { in_region = s.in_region; mode = s.mode; quadrant = s.quadrant; point = operation_point s }
+plot_state s = record { in_region = s.now.in_region; mode = s.mode; quadrant = s.quadrant; point = operation_point s.now }
 
 -- the state that a command meets: what draws need, the parts of the last region, how many regions ended, and polarity
 pub record CopperState : Type 0 where
@@ -61,10 +63,6 @@ copper_state_after before = record {
 
 -- ---- what a command adds
 
--- the shape of the macro that is selected, as it is defined
-abbrev pub macro_shape : CopperState → Option GridRounded
-macro_shape s = option_and_then shape_in (selected_aperture s.draw)
-
 -- The shape of an aperture as it is flashed, about the point of the flash: mirrored first, and then turned by quarters. It is none where it is
 -- scaled, or turned by other than quarters (Gerber format, Aperture transformations LP, LM, LR, LS).
 abbrev pub shape_by : ℤ → ℤ → Mirroring → Option GridRounded → Option GridRounded
@@ -73,15 +71,15 @@ shape_by scale turn mirroring shape =
 
 -- the shape that the selected aperture flashes
 abbrev pub flash_shape : CopperState → Option GridRounded
-flash_shape s = shape_by s.draw.scale s.draw.turn s.draw.mirroring (macro_shape s)
+flash_shape s = shape_by s.draw.now.scale s.draw.now.turn s.draw.mirroring (selected_shape s.draw)
 
 -- why the flash of a macro whose shape is known is no pad: first it is scaled, then it is turned by no multiple of 90 degrees
 abbrev pub why_of_shape : CopperState → Why
-why_of_shape s = if not (int_eq s.draw.scale unit_scale) then why.Scaled else if is_none (quarter_turns s.draw.turn) then why.Turned else why.Macro
+why_of_shape s = if not (int_eq s.draw.now.scale unit_scale) then why.Scaled else if is_none (quarter_turns s.draw.now.turn) then why.Turned else why.Macro
 
 -- why the flash of the selected macro is no pad: first its shape is not known
 abbrev pub macro_why : CopperState → Why
-macro_why s = if is_none (macro_shape s) then why.Macro else why_of_shape s
+macro_why s = if is_none (selected_shape s.draw) then why.Macro else why_of_shape s
 
 -- the pad of the selected macro's flash at a point, where its shape may lie there
 abbrev pub flashed_pad : CopperState → GridPoint → Option GridRounded
@@ -94,11 +92,11 @@ is_room regions block = nat_le (regions + copy_count block) 4194304
 
 -- there is room for the region that ends here
 abbrev pub has_room : CopperState → Bool
-has_room s = is_room s.regions s.draw.block
+has_room s = is_room s.regions s.draw.now.block
 
 -- the contour of the region that ends here, where it counts as a pad; in clear polarity it does not
 abbrev pub region_contour : CopperState → Option GridRounded
-region_contour s = if s.draw.in_region && (not s.clearing.clear && has_room s) then contour_of s.parts else None
+region_contour s = if s.draw.now.in_region && (not s.clearing.clear && has_room s) then contour_of s.parts else None
 
 -- the contour that a command ends, where it counts as a pad
 abbrev pub contour_by : CopperState → Command → Option GridRounded
@@ -107,8 +105,8 @@ contour_by s _ = None
 
 -- the pads of a command that ends a region: its contour at each copy (Gerber format, Step and repeat SR)
 abbrev pub contours_in : CopperState → Command → List GridRounded
-contours_in s c = option_map_or (shapes_at (draw_unit s.draw) s.draw.block) (contour_by s c) []
+contours_in s c = option_map_or (shapes_at (current_unit s.draw.now) s.draw.now.block) (contour_by s c) []
 
 -- at this command all is taken away that was drawn before it
 abbrev pub clears_in : CopperState → Command → Bool
-clears_in s c = (draws c && s.clearing.clear) || (is_repeated s.draw.block && s.clearing.in_block)
+clears_in s c = (draws c && s.clearing.clear) || (is_repeated s.draw.now.block && s.clearing.in_block)

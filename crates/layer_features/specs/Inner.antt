@@ -1,4 +1,4 @@
-pub mod Pencils
+pub mod Plotters
 pub mod Forgetting
 pub mod States
 pub mod Turns

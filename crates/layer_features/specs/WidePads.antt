@@ -26,10 +26,10 @@ use Rattle.layer_state.specs.declared.aperture.Aperture.TheVariants as aperture
 use Rattle.layer_state.specs.Lookback.{GraphicsState, aperture_selected, state_after, unit_set}
 use Rattle.layer_state.specs.Pads.{MayFlash, copies_in, flashed_at}
 use Rattle.layer_state.specs.Placing.{shapes_at}
-use Rattle.layer_features.specs.Blocks.{block_after}
+use Rattle.layer_state.specs.Shapes.{macro_set, primitives_shape, within_limits}
 use Rattle.layer_features.specs.Clearing.{is_clear_after, positions_after_clearing}
 use Rattle.layer_features.specs.Contours.{PlotState, contour_of, region_parts}
-use Rattle.layer_features.specs.Drawn.{macro_set, mirroring_after, mode_set, primitives_shape, quadrant_set, within_limits}
+use Rattle.layer_features.specs.Drawn.{mirroring_after, mode_set, quadrant_set}
 use Rattle.layer_features.specs.FurtherPads.{ended_regions, is_room, shape_by}
 
 -- ---- the shape of a macro
@@ -91,7 +91,8 @@ plot_state_after before = record {
 -- the contour of the region that ends after these commands, where there is room for it (Gerber format, Region statement G36/G37)
 abbrev pub contour_after : List Command → Option GridRounded
 contour_after before =
-    if (state_after before).in_region && is_room (ended_regions before) (block_after before) then contour_of (region_parts plot_state_after before) else None
+    if (state_after before).in_region && is_room (ended_regions before) (state_after before).block
+    then contour_of (region_parts plot_state_after before) else None
 
 -- a contour at each copy of a block (Gerber format, Step and repeat SR)
 abbrev pub contours_at : Option Units → StepRepeat → Option GridRounded → List GridRounded
@@ -103,7 +104,7 @@ contours_at _ block _ = []
 -- the pads of a command after others in dark polarity: those of a flash, or of a region that ends; of any other command, none
 abbrev pub AreDarkPads : List Command → Command → List WidePad → Type 0
 AreDarkPads before (command.Operate action.Flash x y i j) made = AreWideFlashPads before x y made
-AreDarkPads before command.RegionEnd made = made ≡ map Rounded (contours_at (state_after before).unit (block_after before) (contour_after before))
+AreDarkPads before command.RegionEnd made = made ≡ map Rounded (contours_at (state_after before).unit (state_after before).block (contour_after before))
 AreDarkPads before _ made = made ≡ []
 
 -- the pads of commands, each with all commands before it: those of each, in order; in clear polarity none (Gerber format, Load polarity LP)

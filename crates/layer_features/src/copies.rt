@@ -25,16 +25,6 @@ fn stepped(step: Dec, unit: Unit, count: u32) -> i128
     i128::from(count) * dec_length(step, unit)
 }
 
-/// A contour at its first corner.
-fn contour_feature(pad: PlacedRounded) -> Feature
-    ensures { result ≡ contour_feature pad }
-{
-    Feature {
-        at: pad.first(),
-        what: FeatureKind::Contour(pad),
-    }
-}
-
 /// Adds a contour at one copy, where it may lie there.
 fn lay_copy(
     kept: &mut KeptFeatures,
@@ -50,7 +40,9 @@ fn lay_copy(
     let x = stepped(block.step_x, unit, u);
     let y = stepped(block.step_y, unit, v);
     if let Some(pad) = PlacedRounded::new(contour, x, y)? {
-        kept.add(contour_feature(pad))?;
+        let at = pad.first();
+        let what = FeatureKind::Contour(pad);
+        kept.add(Feature { at, what })?;
     }
     Ok(())
 }

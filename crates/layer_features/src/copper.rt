@@ -1,7 +1,6 @@
 //! The flashes and contours of a layer, command by command.
 
 ghost use Rattle.std.specs.Prelude.{◌≡◌, ◌++◌, ◌∷◌, ◌&&◌, [], ℕ, List, OnOk, IfOk, false, min, suc, true, ◌+◌, map, option_and_then, if◌then◌else◌};
-ghost use Rattle.std.specs.Option.{option_copied};
 ghost use Rattle.std.specs.List.{cons_option, filter_map};
 ghost use Rattle.pad_shapes.specs.Placed.{shape_at};
 ghost use Rattle.pad_shapes.specs.declared.wide_pad.WidePad.{WidePad as ThePad};
@@ -12,16 +11,17 @@ ghost use Rattle.gerber_text.specs.declared.text_items.TextKind.{TextKind as The
 ghost use Rattle.layer_state.specs.declared.flash.What.TheVariants as what;
 ghost use Rattle.pad_shapes.specs.declared.row.Why.TheVariants as reason;
 ghost use Rattle.layer_state.specs.Flashes.{added_flashes};
-ghost use Rattle.layer_state.specs.Lookback.{state_after};
+ghost use Rattle.layer_state.specs.Lookback.{current_of, state_after};
 ghost use Rattle.layer_features.specs.Blocks.{copy_count, is_repeated};
 ghost use Rattle.layer_features.specs.DrawnCopper.{dark_part};
 ghost use Rattle.layer_features.specs.Inner.Steps.{max_regions};
-ghost use Rattle.layer_features.specs.FurtherPads.{CopperState, clears_in, contour_by, contours_in, ended_copies, flash_shape, has_room, macro_shape, macro_why, region_contour};
+ghost use Rattle.layer_features.specs.FurtherPads.{CopperState, clears_in, contours_in, ended_copies, flash_shape, has_room, macro_why, region_contour};
 ghost use Rattle.layer_features.specs.Features.{contour_feature, dark_kind, flash_feature, taken_away};
 ghost use Rattle.layer_features.specs.Kept.{AddsFeatures, KeepsFeatures, left_pads};
 ghost use Rattle.layer_features.specs.declared.keep.Keep.{Keep as TheKeep};
 ghost use Rattle.layer_features.specs.declared.feature.Feature.{Feature as TheFeature};
-ghost use Rattle.layer_features.specs.Inner.States.{IsLike, after, command_of, copper_state};
+ghost use Rattle.layer_features.specs.Inner.Plotters.{Selection};
+ghost use Rattle.layer_features.specs.Inner.States.{IsLike, after, command_of, copper_at, copper_state, takes_part};
 
 use crate::clearing::Clearing;
 use crate::contour::contour_of;
@@ -32,10 +32,10 @@ use crate::feature::{Feature, FeatureKind};
 use crate::keep::Keep;
 use crate::kept_features::{KeptFeatures, first_taken_away};
 use crate::part::{Part, add_operation, add_parts};
-use crate::pencil::Pencil;
-use gerber_text::{Command, Interpolation, LeadingOperation};
+use crate::plotter::{Pencil, Plotter, Setting};
+use gerber_text::{Command, Interpolation, LeadingOperation, StepRepeat};
 use grid_units::Point;
-use layer_state::{Flash, ONE, What, oriented, quarter_turns};
+use layer_state::{Current, Flash, ONE, What, oriented, quarter_turns};
 use pad_shapes::{Drawn, PlacedRounded, SharedRounded, Why, WidePad};
 use std::alloc::{AllocError, Global};
 
@@ -43,12 +43,11 @@ use std::alloc::{AllocError, Global};
 const MAX_REGIONS: u64 = 4_194_304;
 
 /// The flashes and contours of the commands so far, or the pads among them that were not taken out, as clear polarity leaves them, and what these
-/// commands draw that it has not taken away, each where it is asked for. It keeps the shapes and macros that the commands define, and the operations
-/// of the last region, and no command.
+/// commands draw that it has not taken away, each where it is asked for. It keeps the operations of the last region, and no command.
 #[derive(Drop)]
 pub struct Copper {
     alloc: Global,
-    pencil: Pencil,
+    plotter: Plotter,
     parts: Vec<Part>,
     regions: u64,
     clearing: Clearing,
@@ -63,77 +62,80 @@ pub struct CopperParts {
     pub features: Vec<Feature>,
     /// The pads among them that were not taken out, where pads alone are kept.
     pub pads: Vec<WidePad>,
-    /// What is drawn that clear polarity does not take away, in order, where it is kept.
+    /// What is drawn that clear polarity does not take away, in order, where it is kept: the first 100,001 parts.
     pub drawn: Vec<Drawn>,
     /// How many flashes and contours there are of each kind.
     pub counts: FeatureCounts,
 }
 
 impl Copper {
-    ghost use Rattle.layer_features.specs.CopperHolding.{HasMet, IsCopperOf, copper_pads, forgets_pads, standing_pads};
+    ghost use Rattle.layer_features.specs.CopperHolding.{HasMet, IsCopperOf, IsSettingOf, copper_pads, forgets_pads, standing_pads};
 
     /// No command was met.
     pub fn new(alloc: Global, keep: Keep) -> Copper
         ensures { HasMet keep [] result [] }
     {
-        let pencil = Pencil::new(alloc);
-        let parts = Vec::new(alloc);
-        let clearing = Clearing::none();
-        let kept = KeptFeatures::new(alloc, keep.rows());
-        let drawing = Drawing::new(alloc, keep.draws());
         Copper {
             alloc,
-            pencil,
-            parts,
+            plotter: Plotter::new(),
+            parts: Vec::new(alloc),
             regions: 0,
-            clearing,
-            kept,
-            drawing,
+            clearing: Clearing::none(),
+            kept: KeptFeatures::new(alloc, keep.rows()),
+            drawing: Drawing::new(alloc, keep.draws()),
         }
     }
 
-    /// Takes in one more command, whose flashes as the strict profile reads them are these. It adds them and its contours, and what it draws.
+    /// Takes in one more command, which meets this setting, and whose flashes as the strict profile reads them are these. It adds them and its contours,
+    /// and what it draws.
     ///
     /// # Errors
     ///
     /// An `AllocError` where there is no memory for them.
-    pub fn take(&mut self, command: &Command, flashes: &[Flash]) -> Result<(), AllocError>
-        ensures { (keep : TheKeep) (taken : List ThePad) (commands : List TheCommand) → HasMet keep taken self.old commands → flashes.now ≡ added_flashes (state_after commands) command.now → OnOk result (HasMet keep taken self.new (commands ++ command.now ∷ [])) }
+    pub fn take(
+        &mut self,
+        setting: &Setting,
+        command: &Command,
+        flashes: &[Flash],
+    ) -> Result<(), AllocError>
+        ensures { (keep : TheKeep) (taken : List ThePad) (commands : List TheCommand) → HasMet keep taken self.old commands → IsSettingOf setting.now commands command.now → flashes.now ≡ added_flashes (state_after commands) command.now → OnOk result (HasMet keep taken self.new (commands ++ command.now ∷ [])) }
     {
-        self.draw(command)?;
-        self.add_flashes(flashes)?;
-        self.add_contours(command)?;
-        self.clear_where(command)?;
-        self.advance(command)?;
+        self.draw(setting, command)?;
+        self.add_flashes(setting, flashes)?;
+        self.add_contours(setting, command)?;
+        self.clear_where(setting, command)?;
+        self.advance(setting, command)?;
         Ok(())
     }
 
     /// Takes in an interpolation, where there is one.
-    fn take_mode(&mut self, mode: Option<Interpolation>) -> Result<(), AllocError>
-        ensures { (keep : TheKeep) (taken : List ThePad) (commands : List TheCommand) → HasMet keep taken self.old commands → OnOk result (HasMet keep taken self.new (commands ++ modes_of mode)) }
+    fn take_mode(&mut self, state: &Current, mode: Option<Interpolation>) -> Result<(), AllocError>
+        ensures { (keep : TheKeep) (taken : List ThePad) (commands : List TheCommand) → HasMet keep taken self.old commands → state.now ≡ current_of (state_after commands) → OnOk result (HasMet keep taken self.new (commands ++ modes_of mode)) }
     {
-        match mode {
-            Some(mode) => self.take(&Command::Mode(mode), &[]),
-            None => Ok(()),
-        }
+        let Some(mode) = mode else {
+            return Ok(());
+        };
+        self.plotter.mode = mode;
+        self.clear_by_copies(state)
     }
 
-    /// Takes in an operation and the interpolation before it, if there is one, as [`Copper::take`] takes in their commands. The flashes are
-    /// those of the operation.
+    /// Takes in an operation and the interpolation before it, if there is one, as [`Copper::take`] takes in their commands. The setting is
+    /// the one of both, and the flashes are those of the operation.
     ///
     /// # Errors
     ///
     /// An `AllocError` where there is no memory for them.
     pub fn operate(
         &mut self,
+        setting: &Setting,
         operation: &LeadingOperation,
         flashes: &[Flash],
     ) -> Result<(), AllocError>
-        ensures { (keep : TheKeep) (taken : List ThePad) (commands : List TheCommand) → HasMet keep taken self.old commands → flashes.now ≡ added_flashes (state_after (commands ++ modes_of operation.now.mode)) (command_of operation.now) → OnOk result (HasMet keep taken self.new ((commands ++ modes_of operation.now.mode) ++ command_of operation.now ∷ [])) }
+        ensures { (keep : TheKeep) (taken : List ThePad) (commands : List TheCommand) → HasMet keep taken self.old commands → IsSettingOf setting.now (commands ++ modes_of operation.now.mode) (command_of operation.now) → flashes.now ≡ added_flashes (state_after (commands ++ modes_of operation.now.mode)) (command_of operation.now) → OnOk result (HasMet keep taken self.new ((commands ++ modes_of operation.now.mode) ++ command_of operation.now ∷ [])) }
     {
-        self.take_mode(operation.mode)?;
+        self.take_mode(setting.current, operation.mode)?;
         if self.is_plain() {
-            return self.add_operation(operation, flashes);
+            return self.add_operation(setting, operation, flashes);
         }
         let LeadingOperation {
             action,
@@ -143,7 +145,7 @@ impl Copper {
             j,
             ..
         } = *operation;
-        self.take(&Command::Operate { action, x, y, i, j }, flashes)
+        self.take(setting, &Command::Operate { action, x, y, i, j }, flashes)
     }
 
     /// Whether nothing is to be drawn, polarity is dark, and nothing of the open block was drawn in clear polarity. So it is with most
@@ -159,17 +161,19 @@ impl Copper {
     /// Takes in an operation that draws nothing and takes nothing away.
     fn add_operation(
         &mut self,
+        setting: &Setting,
         operation: &LeadingOperation,
         flashes: &[Flash],
     ) -> Result<(), AllocError>
         requires asked { self.old.drawing.asked ≡ false }
         requires clear { self.old.clearing.clear ≡ false }
         requires in_block { self.old.clearing.in_block ≡ false }
-        ensures { (keep : TheKeep) (taken : List ThePad) (commands : List TheCommand) → HasMet keep taken self.old commands → flashes.now ≡ added_flashes (state_after commands) (command_of operation.now) → OnOk result (HasMet keep taken self.new (commands ++ command_of operation.now ∷ [])) }
+        ensures { (keep : TheKeep) (taken : List ThePad) (commands : List TheCommand) → HasMet keep taken self.old commands → IsSettingOf setting.now commands (command_of operation.now) → flashes.now ≡ added_flashes (state_after commands) (command_of operation.now) → OnOk result (HasMet keep taken self.new (commands ++ command_of operation.now ∷ [])) }
     {
-        self.add_flashes(flashes)?;
-        add_operation(self.alloc, &mut self.parts, &self.pencil, operation)?;
-        self.pencil.set_point(operation.x.get(), operation.y.get());
+        self.add_flashes(setting, flashes)?;
+        let plotter = &self.plotter;
+        let pencil = Pencil { setting, plotter };
+        add_operation(self.alloc, &mut self.parts, &pencil, operation)?;
         Ok(())
     }
 
@@ -178,160 +182,156 @@ impl Copper {
     /// # Errors
     ///
     /// An `AllocError`, which does not come.
-    pub fn take_text(&mut self) -> Result<(), AllocError>
-        ensures { (keep : TheKeep) (taken : List ThePad) (commands : List TheCommand) (kind : TheKind) (text : List ℕ) → HasMet keep taken self.old commands → OnOk result (HasMet keep taken self.new (commands ++ text_command kind text ∷ [])) }
+    pub fn take_text(&mut self, state: &Current) -> Result<(), AllocError>
+        ensures { (keep : TheKeep) (taken : List ThePad) (commands : List TheCommand) (kind : TheKind) (text : List ℕ) → HasMet keep taken self.old commands → state.now ≡ current_of (state_after commands) → OnOk result (HasMet keep taken self.new (commands ++ text_command kind text ∷ [])) }
     {
-        self.clear_by_copies()
+        self.clear_by_copies(state)
     }
 
     /// Adds what a command draws in dark polarity, where that is asked for. Takes away all that was drawn where the command does.
-    fn draw(&mut self, command: &Command) -> Result<(), AllocError>
-        ensures parts { OnOk result (self.new.drawing.parts.items ≡ (if clears_in (copper_state self.old) command.now then [] else self.old.drawing.parts.items ++ (if self.old.drawing.asked then cons_option (dark_part (copper_state self.old) command.now) [] else []))) }
+    fn draw(&mut self, setting: &Setting, command: &Command) -> Result<(), AllocError>
+        ensures parts { OnOk result (self.new.drawing.parts.items ≡ (if clears_in (copper_at setting.now self.old) command.now then [] else self.old.drawing.parts.items ++ (if takes_part self.old.drawing then cons_option (dark_part (copper_at setting.now self.old) command.now) [] else []))) }
         ensures asked { self.new.drawing.asked ≡ self.old.drawing.asked }
         ensures kept { self.new.kept ≡ self.old.kept }
-        ensures state { copper_state self.new ≡ copper_state self.old }
+        ensures state { copper_at setting.now self.new ≡ copper_at setting.now self.old }
     {
-        let takes_away = self.clears(command);
+        let takes_away = self.clears(setting, command);
         if takes_away {
-            self.drawing.clear();
+            self.drawing.parts.clear();
             return Ok(());
         }
         if self.clearing.clear {
             return Ok(());
         }
-        self.drawing.take(&self.pencil, command)
+        let plotter = &self.plotter;
+        self.drawing.take(&Pencil { setting, plotter }, command)
     }
 
     /// Takes away all flashes and contours, and all that was drawn, where another copy of the open block does.
-    fn clear_by_copies(&mut self) -> Result<(), AllocError>
-        ensures kept { (taken : List ThePad) (features : List TheFeature) → KeepsFeatures self.old.kept taken features → OnOk result (KeepsFeatures self.new.kept taken (if is_repeated self.old.pencil.block && self.old.clearing.in_block then filter_map taken_away features else features)) }
+    fn clear_by_copies(&mut self, state: &Current) -> Result<(), AllocError>
+        ensures kept { (taken : List ThePad) (features : List TheFeature) → KeepsFeatures self.old.kept taken features → OnOk result (KeepsFeatures self.new.kept taken (if is_repeated state.now.block && self.old.clearing.in_block then filter_map taken_away features else features)) }
         ensures rows { self.new.kept.rows ≡ self.old.kept.rows }
-        ensures state { copper_state self.new ≡ copper_state self.old }
-        ensures parts { OnOk result (self.new.drawing.parts.items ≡ (if is_repeated self.old.pencil.block && self.old.clearing.in_block then [] else self.old.drawing.parts.items)) }
+        ensures state { (now : Selection) → copper_state now self.new ≡ copper_state now self.old }
+        ensures parts { OnOk result (self.new.drawing.parts.items ≡ (if is_repeated state.now.block && self.old.clearing.in_block then [] else self.old.drawing.parts.items)) }
         ensures asked { self.new.drawing.asked ≡ self.old.drawing.asked }
     {
-        if self.is_repeated() && self.clearing.in_block {
+        if is_repeated(state.block) && self.clearing.in_block {
             self.kept.take_away()?;
-            self.drawing.clear();
+            self.drawing.parts.clear();
         }
         Ok(())
     }
 
     /// Adds the flashes of a command, which most commands have not.
     #[inline]
-    fn add_flashes(&mut self, flashes: &[Flash]) -> Result<(), AllocError>
-        ensures kept { AddsFeatures result self.old.kept self.new.kept (map (flash_feature (copper_state self.old)) flashes.now) }
+    fn add_flashes(&mut self, setting: &Setting, flashes: &[Flash]) -> Result<(), AllocError>
+        ensures kept { AddsFeatures result self.old.kept self.new.kept (map (flash_feature (copper_at setting.now self.old)) flashes.now) }
         ensures rows { self.new.kept.rows ≡ self.old.kept.rows }
-        ensures state { copper_state self.new ≡ copper_state self.old }
+        ensures state { copper_at setting.now self.new ≡ copper_at setting.now self.old }
         ensures drawing { self.new.drawing ≡ self.old.drawing }
     {
         if flashes.is_empty() {
             return Ok(());
         }
-        self.add_each(flashes)
+        if self.clearing.clear || self.kept.rows {
+            return self.add_each(setting, flashes);
+        }
+        if let [flash] = flashes {
+            if let What::Pad(pad) = flash.what {
+                return self.kept.add_plain(pad);
+            }
+        }
+        self.add_each(setting, flashes)
     }
 
-    /// Adds flashes.
+    /// Adds flashes, of any aperture and in any polarity.
     #[inline(never)]
-    fn add_each(&mut self, flashes: &[Flash]) -> Result<(), AllocError>
-        ensures kept { AddsFeatures result self.old.kept self.new.kept (map (flash_feature (copper_state self.old)) flashes.now) }
+    fn add_each(&mut self, setting: &Setting, flashes: &[Flash]) -> Result<(), AllocError>
+        ensures kept { AddsFeatures result self.old.kept self.new.kept (map (flash_feature (copper_at setting.now self.old)) flashes.now) }
         ensures rows { self.new.kept.rows ≡ self.old.kept.rows }
-        ensures state { copper_state self.new ≡ copper_state self.old }
+        ensures state { copper_at setting.now self.new ≡ copper_at setting.now self.old }
         ensures drawing { self.new.drawing ≡ self.old.drawing }
     {
-        let shape = self.flash_shape()?;
-        let why = self.macro_why();
+        let shape = self.flash_shape(setting)?;
+        let why = self.macro_why(setting);
         let is_clear = self.clearing.clear;
         add_flashes(&mut self.kept, is_clear, &shape, why, flashes)
     }
 
     /// Adds the contours of a command.
-    fn add_contours(&mut self, command: &Command) -> Result<(), AllocError>
-        ensures kept { AddsFeatures result self.old.kept self.new.kept (map contour_feature (contours_in (copper_state self.old) command.now)) }
+    fn add_contours(&mut self, setting: &Setting, command: &Command) -> Result<(), AllocError>
+        ensures kept { AddsFeatures result self.old.kept self.new.kept (map contour_feature (contours_in (copper_at setting.now self.old) command.now)) }
         ensures rows { self.new.kept.rows ≡ self.old.kept.rows }
-        ensures state { copper_state self.new ≡ copper_state self.old }
+        ensures state { copper_at setting.now self.new ≡ copper_at setting.now self.old }
         ensures drawing { self.new.drawing ≡ self.old.drawing }
     {
-        match self.contour_by(command)? {
+        let Command::RegionEnd = command else {
+            return Ok(());
+        };
+        match self.region_contour(setting)? {
             Some(contour) => lay(
                 &mut self.kept,
                 &contour,
-                self.pencil.unit(),
-                &self.pencil.block,
+                setting.current.unit(),
+                &setting.current.block,
             ),
             None => Ok(()),
         }
     }
 
     /// Takes away all flashes and contours where a command does.
-    fn clear_where(&mut self, command: &Command) -> Result<(), AllocError>
-        ensures kept { (taken : List ThePad) (features : List TheFeature) → KeepsFeatures self.old.kept taken features → OnOk result (KeepsFeatures self.new.kept taken (if clears_in (copper_state self.old) command.now then filter_map taken_away features else features)) }
+    fn clear_where(&mut self, setting: &Setting, command: &Command) -> Result<(), AllocError>
+        ensures kept { (taken : List ThePad) (features : List TheFeature) → KeepsFeatures self.old.kept taken features → OnOk result (KeepsFeatures self.new.kept taken (if clears_in (copper_at setting.now self.old) command.now then filter_map taken_away features else features)) }
         ensures rows { self.new.kept.rows ≡ self.old.kept.rows }
-        ensures state { copper_state self.new ≡ copper_state self.old }
+        ensures state { copper_at setting.now self.new ≡ copper_at setting.now self.old }
         ensures drawing { self.new.drawing ≡ self.old.drawing }
     {
-        if self.clears(command) {
+        if self.clears(setting, command) {
             return self.kept.take_away();
         }
         Ok(())
     }
 
     /// Whether a command takes away all that was drawn before it.
-    fn clears(&self, command: &Command) -> bool
-        ensures { result ≡ clears_in (copper_state self.now) command.now }
+    fn clears(&self, setting: &Setting, command: &Command) -> bool
+        ensures { result ≡ clears_in (copper_at setting.now self.now) command.now }
     {
-        self.clearing.is_clearing(command) || (self.is_repeated() && self.clearing.in_block)
-    }
-
-    /// The contour that a command ends, where it counts as a pad.
-    fn contour_by(&self, command: &Command) -> Result<Option<SharedRounded>, AllocError>
-        ensures { IfOk result (λ answer. answer ≡ contour_by (copper_state self.now) command.now) }
-    {
-        match command {
-            Command::RegionEnd => self.region_contour(),
-            _ => Ok(None),
-        }
+        self.clearing.is_clearing(command)
+            || (is_repeated(setting.current.block) && self.clearing.in_block)
     }
 
     /// The shape that the selected aperture flashes.
-    fn flash_shape(&self) -> Result<Option<SharedRounded>, AllocError>
-        ensures { IfOk result (λ answer. answer ≡ flash_shape (copper_state self.now)) }
+    fn flash_shape(&self, setting: &Setting) -> Result<Option<SharedRounded>, AllocError>
+        ensures { IfOk result (λ answer. answer ≡ flash_shape (copper_at setting.now self.now)) }
     {
-        if self.pencil.scale.units() != ONE {
+        if setting.current.scale.units() != ONE {
             return Ok(None);
         }
-        let Some(turns) = quarter_turns(self.pencil.turn) else {
+        let Some(turns) = quarter_turns(setting.current.turn) else {
             return Ok(None);
         };
-        match self.macro_shape() {
-            Some(shape) => oriented(self.alloc, self.pencil.mirroring, turns, shape),
+        match setting.shape() {
+            Some(shape) => oriented(self.alloc, self.plotter.mirroring, turns, shape),
             None => Ok(None),
         }
     }
 
-    /// The shape of the selected aperture, where it is a macro that has one.
-    fn macro_shape(&self) -> Option<&SharedRounded>
-        ensures { option_copied result ≡ macro_shape (copper_state self.now) }
-    {
-        self.pencil.aperture()?.shape()
-    }
-
     /// Why a flash of the selected macro is no pad, where it is none.
-    fn macro_why(&self) -> Why
-        ensures { result ≡ macro_why (copper_state self.now) }
+    fn macro_why(&self, setting: &Setting) -> Why
+        ensures { result ≡ macro_why (copper_at setting.now self.now) }
     {
-        match self.macro_shape() {
-            Some(_) if self.pencil.scale.units() != ONE => Why::Scaled,
-            Some(_) if quarter_turns(self.pencil.turn).is_none() => Why::Turned,
+        match setting.shape() {
+            Some(_) if setting.current.scale.units() != ONE => Why::Scaled,
+            Some(_) if quarter_turns(setting.current.turn).is_none() => Why::Turned,
             Some(_) | None => Why::Macro,
         }
     }
 
     /// The contour of the region that ends here, where it counts as a pad.
-    fn region_contour(&self) -> Result<Option<SharedRounded>, AllocError>
-        ensures { IfOk result (λ answer. answer ≡ region_contour (copper_state self.now)) }
+    fn region_contour(&self, setting: &Setting) -> Result<Option<SharedRounded>, AllocError>
+        ensures { IfOk result (λ answer. answer ≡ region_contour (copper_at setting.now self.now)) }
     {
-        if !self.pencil.in_region || self.clearing.clear || !self.has_room() {
+        if !setting.current.in_region || self.clearing.clear || !self.has_room(setting) {
             return Ok(None);
         }
         match contour_of(self.alloc, &self.parts)? {
@@ -340,42 +340,28 @@ impl Copper {
         }
     }
 
-    /// The number of copies that the block makes of each of its objects.
-    fn copy_count(&self) -> u64
-        ensures { result ≡ copy_count self.now.pencil.block }
-    {
-        u64::from(self.pencil.block.columns) * u64::from(self.pencil.block.rows)
-    }
-
-    /// Whether the block makes more than one copy of each of its objects.
-    fn is_repeated(&self) -> bool
-        ensures { result ≡ is_repeated self.now.pencil.block }
-    {
-        self.copy_count() > 1
-    }
-
     /// How many regions ended, with the copies of one more, or one more than the most.
-    fn regions_with_next(&self) -> u64
-        ensures { result ≡ min (self.now.regions + copy_count self.now.pencil.block) (suc max_regions) }
+    fn regions_with_next(&self, block: StepRepeat) -> u64
+        ensures { result ≡ min (self.now.regions + copy_count block) (suc max_regions) }
     {
         self.regions
-            .saturating_add(self.copy_count())
+            .saturating_add(copy_count(block))
             .min(MAX_REGIONS + 1)
     }
 
     /// Whether the regions that ended and the copies of one more are no more than the most.
-    fn has_room(&self) -> bool
-        ensures { result ≡ has_room (copper_state self.now) }
+    fn has_room(&self, setting: &Setting) -> bool
+        ensures { result ≡ has_room (copper_at setting.now self.now) }
     {
-        self.regions_with_next() <= MAX_REGIONS
+        self.regions_with_next(setting.current.block) <= MAX_REGIONS
     }
 
     /// How many regions ended after one more command, or one more than the most.
-    fn regions_after(&self, command: &Command) -> u64
-        ensures { result ≡ min (self.now.regions + ended_copies self.now.pencil.block command.now) (suc max_regions) }
+    fn regions_after(&self, block: StepRepeat, command: &Command) -> u64
+        ensures { result ≡ min (self.now.regions + ended_copies block command.now) (suc max_regions) }
     {
         match command {
-            Command::RegionEnd => self.regions_with_next(),
+            Command::RegionEnd => self.regions_with_next(block),
             _ => self.regions.min(MAX_REGIONS + 1),
         }
     }
@@ -429,17 +415,33 @@ impl Copper {
     }
 
     /// Takes in one more command without its flashes and contours.
-    fn advance(&mut self, command: &Command) -> Result<(), AllocError>
-        ensures state { OnOk result (IsLike (copper_state self.new) (after command.now (copper_state self.old))) }
+    fn advance(&mut self, setting: &Setting, command: &Command) -> Result<(), AllocError>
+        ensures state { OnOk result ((next : Selection) → IsLike (copper_state next self.new) (after next command.now (copper_at setting.now self.old))) }
         ensures kept { self.new.kept ≡ self.old.kept }
         ensures drawing { self.new.drawing ≡ self.old.drawing }
     {
-        self.regions = self.regions_after(command);
+        self.regions = self.regions_after(setting.current.block, command);
         self.clearing = self.clearing.after_command(command);
-        add_parts(self.alloc, &mut self.parts, &self.pencil, command)?;
-        self.pencil.take(command)?;
+        let plotter = &self.plotter;
+        let pencil = Pencil { setting, plotter };
+        add_parts(self.alloc, &mut self.parts, &pencil, command)?;
+        self.plotter.take(command);
         Ok(())
     }
+}
+
+/// The number of copies that a block makes of each of its objects.
+fn copy_count(block: StepRepeat) -> u64
+    ensures { result ≡ copy_count block }
+{
+    u64::from(block.columns) * u64::from(block.rows)
+}
+
+/// Whether a block makes more than one copy of each of its objects.
+fn is_repeated(block: StepRepeat) -> bool
+    ensures { result ≡ is_repeated block }
+{
+    copy_count(block) > 1
 }
 
 /// The pad of a macro's shape at a point, where it may lie there.

@@ -3,7 +3,10 @@
 ghost use Rattle.std.specs.Prelude.{◌≡◌, ◌+◌, ◌++◌, [], ◌∷◌, List, IfOk};
 ghost use Rattle.std.specs.List.{filter_map};
 ghost use Rattle.layer_features.specs.Features.{counts_of, taken_away};
+ghost use Rattle.grid_units.specs.Points.{GridPoint};
+ghost use Rattle.pad_shapes.specs.declared.wide_pad.WidePad.{WidePad as ThePad};
 ghost use Rattle.layer_features.specs.declared.feature.Feature.{Feature as TheFeature};
+ghost use Rattle.layer_features.specs.declared.feature.FeatureKind.TheVariants as kind;
 
 use crate::feature::{Feature, FeatureKind};
 use std::alloc::AllocError;
@@ -30,15 +33,13 @@ fn sum(a: usize, b: usize) -> Result<usize, AllocError>
 }
 
 impl FeatureCounts {
-    /// The counts of no flash and no contour.
-    pub(crate) fn none() -> FeatureCounts
-        ensures { result ≡ counts_of [] }
+    /// The counts with one more flash that is a pad.
+    #[inline]
+    pub(crate) fn with_pad(self) -> Result<FeatureCounts, AllocError>
+        ensures { (features : List TheFeature) (at : GridPoint) (pad : ThePad) → self ≡ counts_of features → IfOk result (λ counts. counts ≡ counts_of (features ++ record { at = at; what = kind.Pad pad } ∷ [])) }
     {
-        FeatureCounts {
-            flashed: 0,
-            contours: 0,
-            other: 0,
-        }
+        let flashed = sum(self.flashed, 1)?;
+        Ok(FeatureCounts { flashed, ..self })
     }
 
     /// The counts with one more.

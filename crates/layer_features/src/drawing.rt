@@ -1,16 +1,21 @@
-//! What the commands so far draw that clear polarity has not taken away, where that is asked for.
+//! The first parts of what the commands so far draw that clear polarity has not taken away, where that is asked for.
 
 ghost use Rattle.std.specs.Prelude.{◌≡◌, ◌++◌, [], OnOk, if◌then◌else◌};
 ghost use Rattle.std.specs.List.{cons_option};
 ghost use Rattle.layer_features.specs.Drawn.{drawn_by};
-ghost use Rattle.layer_features.specs.Inner.Pencils.{draw_state};
+ghost use Rattle.layer_features.specs.Inner.Plotters.{pencil_state};
+ghost use Rattle.layer_features.specs.Inner.States.{takes_part};
 
-use crate::pencil::Pencil;
+use crate::plotter::Pencil;
 use gerber_text::Command;
 use pad_shapes::Drawn;
 use std::alloc::{AllocError, Global};
 
-/// What the commands so far draw that clear polarity has not taken away, in order, where that is asked for.
+/// The most parts that a picture of a layer shows.
+const MAX_PARTS: usize = 100_000;
+
+/// What the commands so far draw that clear polarity has not taken away, in order, where that is asked for; and no more of it than tells that a
+/// picture does not show it.
 #[derive(Drop)]
 pub(crate) struct Drawing {
     pub(crate) asked: bool,
@@ -29,20 +34,12 @@ impl Drawing {
         }
     }
 
-    /// Takes away all that was drawn.
-    pub(crate) fn clear(&mut self)
-        ensures parts { self.new.parts.items ≡ [] }
-        ensures asked { self.new.asked ≡ self.old.asked }
-    {
-        self.parts.clear();
-    }
-
     /// Adds what one more command draws in the state that it meets.
     pub(crate) fn take(&mut self, pencil: &Pencil, command: &Command) -> Result<(), AllocError>
-        ensures parts { OnOk result (self.new.parts.items ≡ self.old.parts.items ++ (if self.old.asked then cons_option (drawn_by (draw_state pencil.now) command.now) [] else [])) }
+        ensures parts { OnOk result (self.new.parts.items ≡ self.old.parts.items ++ (if takes_part self.old then cons_option (drawn_by (pencil_state pencil.now) command.now) [] else [])) }
         ensures asked { self.new.asked ≡ self.old.asked }
     {
-        if !self.asked {
+        if !self.asked || self.parts.len() > MAX_PARTS {
             return Ok(());
         }
         if let Some(part) = pencil.drawn(command)? {

@@ -42,16 +42,12 @@ fn starts_no_pad(alloc: Global, parts: &[Part]) -> Result<bool, AllocError>
     }
 }
 
-/// Whether so many parts are looked at.
-fn is_time_to_look(count: usize) -> bool {
-    FIRST_LOOK <= count && count.is_power_of_two()
-}
-
 /// Looks at parts, where it is time to, and keeps one alone of parts that make no contour, whatever follows them: it makes none either.
 pub(crate) fn forget(alloc: Global, parts: &mut Vec<Part>) -> Result<(), AllocError>
     ensures { OnOk result (MakeSameContour parts.new.items parts.old.items) }
 {
-    if !is_time_to_look(parts.len()) {
+    let count = parts.len();
+    if count < FIRST_LOOK || !count.is_power_of_two() {
         return Ok(());
     }
     let over = starts_no_pad(alloc, parts)?;

@@ -11,7 +11,7 @@ pub enum Keep {
     Pads,
     /// Flashes and contours, pads among them.
     Rows,
-    /// Flashes and contours, and what is drawn.
+    /// Flashes and contours, and the first 100,001 parts of what is drawn.
     RowsAndDrawn,
 }
 

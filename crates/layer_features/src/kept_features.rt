@@ -2,14 +2,17 @@
 
 ghost use Rattle.std.specs.Prelude.{◌≡◌, ◌++◌, ◌≤◌, [], ◌∷◌, List, IfOk, OnOk, false, length, if◌then◌else◌};
 ghost use Rattle.std.specs.List.{cons_option, filter_map};
+ghost use Rattle.grid_units.specs.Points.{GridPoint};
 ghost use Rattle.pad_shapes.specs.declared.wide_pad.WidePad.{WidePad as ThePad};
 ghost use Rattle.layer_features.specs.Features.{pad_in, taken_away};
 ghost use Rattle.layer_features.specs.Kept.{AddsFeatures, first_taken_away};
+ghost use Rattle.pad_shapes.specs.declared.wide_pad.WidePad.TheVariants.{Plain};
 ghost use Rattle.layer_features.specs.declared.feature.Feature.{Feature as TheFeature};
+ghost use Rattle.layer_features.specs.declared.feature.FeatureKind.TheVariants as kind;
 
 use crate::counts::FeatureCounts;
 use crate::feature::Feature;
-use pad_shapes::WidePad;
+use pad_shapes::{Pad, WidePad};
 use std::alloc::{AllocError, Global};
 
 /// The flashes and contours so far where rows are asked for, else the pads among them that were not taken out; and how many there are of each
@@ -40,7 +43,11 @@ impl KeptFeatures {
             cleared: 0,
             pads: Vec::new(alloc),
             forgets: false,
-            counts: FeatureCounts::none(),
+            counts: FeatureCounts {
+                flashed: 0,
+                contours: 0,
+                other: 0,
+            },
         }
     }
 
@@ -56,6 +63,22 @@ impl KeptFeatures {
         let counts = self.counts.with(&feature);
         self.hold(feature)?;
         self.counts = counts?;
+        Ok(())
+    }
+
+    /// Adds the pad of a flash of a standard aperture, where pads alone are kept. So it is with most flashes.
+    ///
+    /// # Errors
+    ///
+    /// An `AllocError` where there is no memory for it.
+    #[inline]
+    pub(crate) fn add_plain(&mut self, pad: Pad) -> Result<(), AllocError>
+        requires { self.old.rows ≡ false }
+        ensures kept { (at : GridPoint) → AddsFeatures result self.old self.new (record { at = at; what = kind.Pad (Plain pad) } ∷ []) }
+        ensures rows { self.new.rows ≡ self.old.rows }
+    {
+        self.pads.push(WidePad::Plain(pad))?;
+        self.counts = self.counts.with_pad()?;
         Ok(())
     }
 

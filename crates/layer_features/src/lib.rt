@@ -9,15 +9,13 @@ mod copies;
 mod copper;
 mod counts;
 mod drawing;
-mod drawn_apertures;
 mod feature;
 mod forget;
 mod keep;
 mod kept_features;
 mod laws;
-mod macros;
 mod part;
-mod pencil;
+mod plotter;
 mod turns;
 
 pub use copper::{Copper, CopperParts};
@@ -27,3 +25,4 @@ pub use keep::Keep;
 pub use laws::{
     contours_are_inside_edges, flashed_shapes_are_in_primitives, uncleared_positions, wide_pads,
 };
+pub use plotter::Setting;

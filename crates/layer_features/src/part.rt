@@ -7,12 +7,12 @@ ghost use Rattle.layer_features.specs.FurtherPads.{plot_state};
 ghost use Rattle.layer_features.specs.declared.part.Part.TheVariants as part;
 ghost use Rattle.layer_features.specs.Contours.{is_clockwise, is_counterclockwise, is_move, is_side, part_by, part_of, side_by, starts_region};
 ghost use Rattle.layer_features.specs.Inner.Steps.{end_of, start_of};
-ghost use Rattle.layer_features.specs.Inner.Pencils.{draw_state};
+ghost use Rattle.layer_features.specs.Inner.Plotters.{pencil_state};
 ghost use Rattle.layer_features.specs.Inner.States.{MakeSameContour, command_of, parts_after};
 
 use crate::arc::is_arc;
 use crate::forget::{forget, is_over};
-use crate::pencil::Pencil;
+use crate::plotter::{Pencil, current_point, operation_point};
 use gerber_text::{Action, Command, Interpolation, LeadingOperation};
 use grid_units::Point;
 use std::alloc::{AllocError, Global};
@@ -89,29 +89,33 @@ impl Part {
 
 /// Whether a plot from one point to another is a side of a contour: straight and without the offsets of a centre, or along an arc that has one.
 fn is_side(pencil: &Pencil, from: Point, to: Point, i: Option<i64>, j: Option<i64>) -> bool
-    ensures { result ≡ is_side (plot_state (draw_state pencil.now)) pencil.now.mode from to i j }
+    ensures { result ≡ is_side (plot_state (pencil_state pencil.now)) pencil.now.plotter.now.mode from to i j }
 {
-    match pencil.mode {
+    match pencil.plotter.mode {
         Interpolation::Linear => i.is_none() && j.is_none(),
         Interpolation::Clockwise | Interpolation::Counterclockwise => {
-            let centre = pencil.operation_point(Some(i.unwrap_or(0)), Some(j.unwrap_or(0)));
-            is_arc(pencil.quadrant, from, to, centre)
+            let centre = operation_point(
+                pencil.setting.current,
+                Some(i.unwrap_or(0)),
+                Some(j.unwrap_or(0)),
+            );
+            is_arc(pencil.plotter.quadrant, from, to, centre)
         }
     }
 }
 
 /// The side from the current point to another, where both are near.
 fn side_to(pencil: &Pencil, to: Option<Point>, i: Option<i64>, j: Option<i64>) -> Part
-    ensures { result ≡ option_map_or (λ ends. side_by (plot_state (draw_state pencil.now)) ends.0 ends.1 i j)
-        (option_zip ((plot_state (draw_state pencil.now)).point None None) to) part.Other }
+    ensures { result ≡ option_map_or (λ ends. side_by (plot_state (pencil_state pencil.now)) ends.0 ends.1 i j)
+        (option_zip ((plot_state (pencil_state pencil.now)).point None None) to) part.Other }
 {
-    match (pencil.current_point(), to) {
+    match (current_point(pencil.setting.current), to) {
         (Some(from), Some(to)) => {
             if is_side(pencil, from, to, i, j) {
                 Part::Side {
                     from,
                     to,
-                    way: pencil.mode,
+                    way: pencil.plotter.mode,
                 }
             } else {
                 Part::Other
@@ -130,22 +134,22 @@ fn part_of(
     i: Option<i64>,
     j: Option<i64>,
 ) -> Part
-    ensures { result ≡ part_of (plot_state (draw_state pencil.now)) action x y i j }
+    ensures { result ≡ part_of (plot_state (pencil_state pencil.now)) action x y i j }
 {
     match action {
         Action::Move => Part::Move,
-        Action::Plot => side_to(pencil, pencil.operation_point(x, y), i, j),
+        Action::Plot => side_to(pencil, operation_point(pencil.setting.current, x, y), i, j),
         Action::Flash => Part::Other,
     }
 }
 
 /// What a command adds to the region that is open.
 fn part_by(pencil: &Pencil, command: &Command) -> Option<Part>
-    ensures { result ≡ part_by (plot_state (draw_state pencil.now)) command.now }
+    ensures { result ≡ part_by (plot_state (pencil_state pencil.now)) command.now }
 {
     match command {
         Command::Operate { action, x, y, i, j } => {
-            if !pencil.in_region {
+            if !pencil.setting.current.in_region {
                 return None;
             }
             Some(part_of(pencil, *action, x.get(), y.get(), i.get(), j.get()))
@@ -182,9 +186,9 @@ pub(crate) fn add_operation(
     pencil: &Pencil,
     operation: &LeadingOperation,
 ) -> Result<(), AllocError>
-    ensures { OnOk result (MakeSameContour parts.new.items (parts.old.items ++ cons_option (part_by (plot_state (draw_state pencil.now)) (command_of operation.now)) [])) }
+    ensures { OnOk result (MakeSameContour parts.new.items (parts.old.items ++ cons_option (part_by (plot_state (pencil_state pencil.now)) (command_of operation.now)) [])) }
 {
-    if !pencil.in_region {
+    if !pencil.setting.current.in_region {
         return Ok(());
     }
     if is_over(parts) {
@@ -209,7 +213,7 @@ pub(crate) fn add_parts(
     pencil: &Pencil,
     command: &Command,
 ) -> Result<(), AllocError>
-    ensures { OnOk result (MakeSameContour parts.new.items (parts_after command.now (draw_state pencil.now) parts.old.items)) }
+    ensures { OnOk result (MakeSameContour parts.new.items (parts_after command.now (pencil_state pencil.now) parts.old.items)) }
 {
     if starts_region(command) {
         parts.clear();

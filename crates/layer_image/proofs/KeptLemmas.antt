@@ -1,7 +1,7 @@
 -- What a reader keeps of a layer, by what is kept of its flashes and of its flashes and contours.
 use Rattle.layer_image.proofs.Common.{◌≡◌, ◌∙◌, ◌+◌, ◌++◌, ℕ, Bool, true, false, cond, List, [], ◌∷◌, Option, Some, None, length, map, refl, sym, ap, subst, arith, append-nil, if◌then◌else◌, cons_option, map-append, Profile, Strict, Wide, Command, Entries, without_places, Pad, WidePad, IsCopperOf, contour_count, counts_of, features_of, flashed_count, is_contour, is_flashed_pad, is_other, other_count, pad_in, strict_feature, strict_kind, wide_features_of, flashes_of, IsScanned, keeps_commands, keeps_drawn, keeps_pads_alone, keeps_rows, keeps_flashes, keeps_pads, without_pads, Flash, Keep, IsKeptOf, counting_profile, flashes_kept, plain}
 use Rattle.std.proofs.lemmas.List.Sums.{sum_by-cons}
-use Rattle.layer_features.specs.DrawnCopper.{uncleared_drawn}
+use Rattle.layer_features.specs.DrawnCopper.{first_parts, uncleared_drawn}
 use Rattle.layer_features.specs.Features.{pads_of}
 use Rattle.layer_state.specs.FileFunction.{file_function_of}
 use Rattle.layer_state.specs.Flashes as flash_lists
@@ -128,7 +128,7 @@ kept_by_flashes profile of taken k plain_taken entries commands scanned counts i
           (λ i. same i ++ append-nil (map plain scanned.pads.items) i) ∙ sym (map-append plain plain_taken scanned.pads.items) ∙ ap (map plain) all ∙ sym (plain_of_flashes (flashes_of cs))
           ∙ ap (λ (p : Profile). pads_of (features_of p cs)) (sym (by.alone e));
       features = none_of (keeps_rows of) (wide_features_of cs) by.rows;
-      drawn = none_of (keeps_drawn of) (uncleared_drawn cs) by.drawn;
+      drawn = none_of (keeps_drawn of) (first_parts (uncleared_drawn cs)) by.drawn;
       counts = counts_are ∙ ap (λ (p : Profile). counts_of (features_of p cs)) (sym by.counts);
       named = s.named;
     }

@@ -1,5 +1,5 @@
 -- The pads among the flashes of a legal list are the pads that its commands make.
-use Rattle.layer_image.proofs.Common.{◌≡◌, ℕ, ℤ, List, [], ◌∷◌, ◌++◌, map, length, Option, None, refl, sym, ap, subst, ◌∙◌, option_map_or, AllByRecursion, filter_map, flat_map, cons_option, length-map, flat_map-cons, filter_map-append, violation_at, with_prefixes_from, GridPoint, Reason, Command, Flash, without_places, LayerImage, GraphicsState, state_after, current_aperture, added_flashes, aperture_flashes, copies_at, current_unit, flash_at, flash_copies, flashes_of, grid_at, pads_of, FlashesAreCopies, LayerPads, LegalPads, ArePads, ArePadsFrom, ArePadsOf, MayFlash, copies_in, flashed_at, broken_rule, first_broken}
+use Rattle.layer_image.proofs.Common.{◌≡◌, ℕ, ℤ, List, [], ◌∷◌, ◌++◌, map, length, Option, None, refl, sym, ap, subst, ◌∙◌, option_map_or, AllByRecursion, filter_map, flat_map, cons_option, length-map, flat_map-cons, filter_map-append, violation_at, with_prefixes_from, GridPoint, Reason, Command, Flash, without_places, LayerImage, GraphicsState, state_after, current_aperture, added_flashes, aperture_flashes, copies_at, current_of, current_unit, flash_at, flash_copies, flashes_of, grid_at, pads_of, FlashesAreCopies, LayerPads, LegalPads, ArePads, ArePadsFrom, ArePadsOf, MayFlash, copies_in, flashed_at, broken_rule, first_broken}
 use Rattle.grid_units.specs.declared.lengths.Unit.{Unit as Units}
 use Rattle.gerber_commands.specs.declared.command.Action.TheVariants as action
 use Rattle.gerber_commands.specs.declared.command.Command.TheVariants as command
@@ -12,9 +12,9 @@ use Rattle.layer_state.proofs.StateLemmas.{state_after-more}
 
 -- ---- what a flash leaves
 
-pads_at : (s : GraphicsState) (shape : Aperture) (ps : List GridPoint) → pads_of (map (flash_at s shape) ps) ≡ filter_map (flashed_at (current_unit s) s shape) ps
+pads_at : (s : GraphicsState) (shape : Aperture) (ps : List GridPoint) → pads_of (map (flash_at s shape) ps) ≡ filter_map (flashed_at (current_unit (current_of s)) s shape) ps
 pads_at s shape [] = refl
-pads_at s shape (p ∷ ps) = λ i. cons_option (pad_is p (current_unit s) s.scale s.turn shape i) (pads_at s shape ps i)
+pads_at s shape (p ∷ ps) = λ i. cons_option (pad_is p (current_unit (current_of s)) s.scale s.turn shape i) (pads_at s shape ps i)
 
 leaves : (s : GraphicsState) (x y : Option ℤ) (unit : Units) (format : Format) (shape : Aperture) → MayFlash s unit format shape
     → pads_of (option_map_or (aperture_flashes s x y) (current_aperture s) []) ≡ filter_map (flashed_at unit s shape) (copies_in unit format s x y)

@@ -1,11 +1,12 @@
 -- What a reader of a layer in pieces shows of the text so far.
-use Rattle.layer_image.proofs.Common.{◌≡◌, inl, inr, ℕ, List, [], ◌++◌, length, take, drop, append-nil, append_assoc, Bool, true, false, cond, Result, Ok, Err, OnOk, IfOk, IfErr, refl, sym, ap, subst, ◌∙◌, nat_lt, arith, take-length, if◌then◌else◌, take-append-drop, AnswersAlways, Answers, IfFault, Fault, bind_ok, Profile, WordReader, OffsetByte, Entries, commands_by, shown_by, ShowsIn, ReadsIn, SpellsPrefixIn, SpellsBeforeFaultIn, entries_after, StandsIn, FailedIn, FailsWithIn, held_entries, shown_spelled, WidePad, Keep, IsFirstFault, LayerImage, ReadsLayer, ReadsLayerIn, IsKeptOf, KeptLayer, ReadsKeptIn, image_in, LayerContent, counts_of, features_of, flashes_of, pads_of, Strict, IsLegal, HasContent, ShowsLayerFaultIn, text_limit, without_places, broken_rule}
+use Rattle.layer_image.proofs.Common.{◌≡◌, inl, inr, ℕ, List, [], ◌++◌, length, take, drop, append-nil, append_assoc, Bool, true, false, cond, Result, Ok, Err, OnOk, IfOk, IfErr, refl, sym, ap, subst, ◌∙◌, nat_lt, arith, take-length, if◌then◌else◌, take-append-drop, AnswersAlways, Answers, IfFault, Fault, bind_ok, Profile, WordReader, OffsetByte, Entries, commands_by, shown_by, ShowsIn, ReadsIn, SpellsPrefixIn, SpellsBeforeFaultIn, entries_after, StandsIn, FailedIn, FailsWithIn, held_entries, shown_spelled, WidePad, Keep, IsFirstFault, LayerImage, ReadsLayer, ReadsLayerIn, IsKeptOf, KeptLayer, ReadsKeptIn, image_in, LayerContent, counts_of, features_of, flashes_of, pads_of, Strict, IsLegal, HasContent, ShowsLayerFaultIn, text_limit, without_places, broken_rule, LayerStands}
 use Rattle.grid_units.specs.declared.fault.Fail.{Fail}
 use Rattle.grid_units.specs.declared.fault.Fail.TheVariants as fails
 use Rattle.gerber_text.proofs.FinishLemmas.{holds_shows, shows_reads}
 use Rattle.gerber_text.proofs.FaultsStay.{fails_longer}
 use Rattle.layer_features.specs.declared.keep.Keep.TheVariants as keep
 use Rattle.layer_image.specs.declared.content.LayerContent.TheVariants as content
+use Rattle.layer_image.specs.declared.reader.LayerReader.{LayerReader}
 use Rattle.layer_image.proofs.KeptLemmas.{counts_of_flashes}
 use Rattle.layer_features.specs.declared.counts.FeatureCounts.{FeatureCounts}
 use Rattle.layer_state.specs.Flashes.{other_count}
@@ -127,3 +128,9 @@ end_err profile text gone keep left (fails.Refused f) h kept legal = inr (gone, 
 pub legal_content : (profile : Profile) (keep : Keep) (taken : List WidePad) (held_entries : LayerContent) (entries : Entries) → HasContent profile keep taken held_entries entries → IsLegal broken_rule (without_places entries)
 legal_content profile keep taken (content.Flashes scan) entries h = h.scanned.legal
 legal_content profile keep taken (content.Features met) entries h = h.1.scanned.legal
+
+-- a reader stands as it did where its words are the same
+pub with_same_words : (reader : LayerReader) (words : WordReader) (profile : Profile) (keep : Keep) (taken : List WidePad) (text : List ℕ) → words ≡ reader.words → LayerStands reader profile keep taken text
+    → LayerStands (record { alloc = reader.alloc; words = words; content = reader.content; profile = reader.profile; keep = reader.keep; kept = reader.kept; failed = reader.failed }) profile keep taken text
+with_same_words reader words profile keep taken text same h =
+    subst (λ (w : WordReader). LayerStands (record { alloc = reader.alloc; words = w; content = reader.content; profile = reader.profile; keep = reader.keep; kept = reader.kept; failed = reader.failed }) profile keep taken text) (sym same) h

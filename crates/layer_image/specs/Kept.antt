@@ -16,7 +16,7 @@ use Rattle.layer_state.specs.declared.flash.FlashKeep.{FlashKeep}
 use Rattle.layer_state.specs.declared.flash.FlashKeep.TheVariants as flash_keep
 use Rattle.layer_features.specs.declared.keep.Keep.{Keep}
 use Rattle.layer_features.specs.declared.keep.Keep.TheVariants as keep
-use Rattle.layer_features.specs.DrawnCopper.{uncleared_drawn}
+use Rattle.layer_features.specs.DrawnCopper.{first_parts, uncleared_drawn}
 use Rattle.layer_features.specs.Features.{counts_of, features_of, pads_of, wide_features_of}
 use Rattle.layer_state.specs.FileFunction.{file_function_of}
 use Rattle.layer_state.specs.Flashes.{flashes_of}
@@ -59,7 +59,7 @@ pub record IsKeptOf (profile : Profile) (keep : Keep) (left : List WidePad) (ent
   pub plain_pads : keeps_commands keep ≡ true → left ≡ [] → kept.pads ≡ flash_lists.pads_of (flashes_of (without_places entries))
   pub pads : keeps_pads_alone keep ≡ true → left ++ (map plain kept.pads ++ kept.wide_pads) ≡ pads_of (features_of profile (without_places entries))
   pub features : kept.features ≡ (if keeps_rows keep then wide_features_of (without_places entries) else [])
-  pub drawn : kept.drawn ≡ (if keeps_drawn keep then uncleared_drawn (without_places entries) else [])
+  pub drawn : kept.drawn ≡ (if keeps_drawn keep then first_parts (uncleared_drawn (without_places entries)) else [])
   pub counts : kept.counts ≡ counts_of (features_of (counting_profile profile keep) (without_places entries))
   pub named : kept.file_function ≡ file_function_of (without_places entries)
 

@@ -88,13 +88,17 @@ impl LayerContent {
     /// # Errors
     ///
     /// The fault of an operation that breaks a rule; `Memory` where an allocation failed.
-    pub(crate) fn operate(&mut self, passed: PassedOperation) -> Result<(), Fail>
-        ensures ok { (profile : TheProfile) (keep : TheKeep) (taken : List ThePad) (before : Entries) → HasContent profile keep taken self.old before → OnOk result (HasContent profile keep taken self.new (before ++ passed_entries passed)) }
-        ensures refused { (profile : TheProfile) (keep : TheKeep) (taken : List ThePad) (before : Entries) → HasContent profile keep taken self.old before → IfErr result (IfFault (IsFirstFault (before ++ passed_entries passed))) }
+    pub(crate) fn operate(&mut self, passed: &PassedOperation) -> Result<(), Fail>
+        ensures ok { (profile : TheProfile) (keep : TheKeep) (taken : List ThePad) (before : Entries) → HasContent profile keep taken self.old before → OnOk result (HasContent profile keep taken self.new (before ++ passed_entries passed.now)) }
+        ensures refused { (profile : TheProfile) (keep : TheKeep) (taken : List ThePad) (before : Entries) → HasContent profile keep taken self.old before → IfErr result (IfFault (IsFirstFault (before ++ passed_entries passed.now))) }
     {
         match self {
             LayerContent::Flashes(scan) => scan.operate(passed),
-            LayerContent::Features(met) => met.operate(passed),
+            // The result of a call that is not in line is taken apart, and made anew: else what the other arm gives would lie in memory too.
+            LayerContent::Features(met) => {
+                met.operate(*passed)?;
+                Ok(())
+            }
         }
     }
 

@@ -89,8 +89,8 @@ impl Layer {
         Some(self.file_function.as_ref()?.bytes())
     }
 
-    /// What is drawn that clear polarity does not take away, in order: lines and arcs, flashes of macros that have a shape, and the contours of
-    /// regions. Of a step and repeat block the first copy alone is drawn.
+    /// The first 100,001 parts of what is drawn that clear polarity does not take away, in order: lines and arcs, flashes of macros that have a
+    /// shape, and the contours of regions. Of a step and repeat block the first copy alone is drawn.
     pub fn drawn(&self) -> &[Drawn]
         ensures { result.now ≡ self.now.drawn }
     {

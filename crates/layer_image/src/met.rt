@@ -12,7 +12,7 @@ ghost use Rattle.layer_features.specs.declared.keep.Keep.{Keep as TheKeep};
 
 use gerber_text::{Command, PassedOperation, Placed, TextKind};
 use grid_units::Fail;
-use layer_features::Copper;
+use layer_features::{Copper, Setting};
 use layer_state::Scan;
 use std::alloc::{AllocError, Global};
 
@@ -32,8 +32,14 @@ impl Met {
         ensures ok { (keep : TheKeep) (taken : List ThePad) (before : Entries) → HasMetLegal keep taken self.old before → OnOk result (HasMetLegal keep taken self.new (before ++ entry.now ∷ [])) }
         ensures refused { (keep : TheKeep) (taken : List ThePad) (before : Entries) → HasMetLegal keep taken self.old before → IfErr result (IfFault (IsFirstFault (before ++ entry.now ∷ []))) }
     {
+        let before = *self.scan.current();
         self.scan.take(self.alloc, entry)?;
-        self.copper.take(&entry.what, self.scan.flashes())?;
+        let setting = Setting {
+            current: &before,
+            apertures: self.scan.apertures(),
+        };
+        self.copper
+            .take(&setting, &entry.what, self.scan.flashes())?;
         self.scan.clear_flashes();
         Ok(())
     }
@@ -64,9 +70,14 @@ impl Met {
         ensures ok { (keep : TheKeep) (taken : List ThePad) (before : Entries) → HasMetLegal keep taken self.old before → OnOk result (HasMetLegal keep taken self.new (before ++ passed_entries passed)) }
         ensures refused { (keep : TheKeep) (taken : List ThePad) (before : Entries) → HasMetLegal keep taken self.old before → IfErr result (IfFault (IsFirstFault (before ++ passed_entries passed))) }
     {
-        let operation = passed.operation;
-        self.scan.operate(passed)?;
-        self.copper.operate(&operation, self.scan.flashes())?;
+        let before = *self.scan.current();
+        self.scan.operate(&passed)?;
+        let setting = Setting {
+            current: &before,
+            apertures: self.scan.apertures(),
+        };
+        self.copper
+            .operate(&setting, &passed.operation, self.scan.flashes())?;
         self.scan.clear_flashes();
         Ok(())
     }
@@ -76,7 +87,7 @@ impl Met {
         requires { is_scanning_region self.old.scan ≡ false }
         ensures { (keep : TheKeep) (taken : List ThePad) (before : Entries) (place byte : ℕ) → HasMetLegal keep taken self.old before → OnOk result (HasMetLegal keep taken self.new (before ++ item_entries place byte (text_command kind text.now ∷ []))) }
     {
-        self.copper.take_text()?;
+        self.copper.take_text(self.scan.current())?;
         self.scan.text(self.alloc, kind, text)?;
         Ok(())
     }

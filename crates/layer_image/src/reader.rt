@@ -138,10 +138,10 @@ impl LayerReader {
         match self.words.pass_operation(bytes) {
             Some(passed) => {
                 let len = passed.len;
-                self.content.operate(passed)?;
+                self.content.operate(&passed)?;
                 Ok(len)
             }
-            None => self.take_other(bytes),
+            None => Ok(self.take_other(bytes)?),
         }
     }
 

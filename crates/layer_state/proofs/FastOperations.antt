@@ -1,5 +1,5 @@
 -- Most operations break no rule, and a flash among them makes one flash.
-use Rattle.layer_state.proofs.Common.{◌≡◌, ℕ, ◌+◌, ◌*◌, ◌/◌, ◌^◌, ◌<◌, ◌≤◌, ℤ, pos, ◌*ℤ◌, unsigned_abs, true, false, cond, not, ◌||◌, ◌&&◌, nat_le, nat_lt, List, [], ◌∷◌, map, length, Option, None, Some, Ok, unwrap_or, is_none, refl, sym, ap, subst, ◌∙◌, arith, mul-le-mul_right, unsigned_abs-mul, option_map_or, option_and_then, flat_map, list_any, GridPoint, max_coordinate, is_too_far, picometres, unit_length, Action, Command, Flash, Flashes, State, GraphicsState, current_aperture, numbers_below, copies, copies_at, copy_at, grid_at, is_flash, aperture_flashes, flash_at, added_flashes, current_unit, current_decimals, what_at, moved_what, origin, first_broken, needs_aperture, has_too_many_digits, reaches_too_far, makes_too_many_flashes, flashes_too_far, is_long_coordinate, is_far_coordinate, is_far_pad, is_far_point, KeptParts, Adds, flash_count, IsStateAfter, Applies, AppliesOrRefuses, after, state_of, AreLengths, IsSingleFlash, AreCachedValues, IsFlashOf, changes_cached, is_far_flash, is_within, point_of, and_false}
+use Rattle.layer_state.proofs.Common.{◌≡◌, ℕ, ◌+◌, ◌*◌, ◌/◌, ◌^◌, ◌<◌, ◌≤◌, ℤ, pos, ◌*ℤ◌, unsigned_abs, true, false, cond, not, ◌||◌, ◌&&◌, nat_le, nat_lt, List, [], ◌∷◌, map, length, Option, None, Some, Ok, unwrap_or, is_none, refl, sym, ap, subst, ◌∙◌, arith, mul-le-mul_right, unsigned_abs-mul, option_map_or, option_and_then, flat_map, list_any, GridPoint, max_coordinate, is_too_far, picometres, unit_length, Action, Command, Flash, Flashes, State, GraphicsState, current_aperture, numbers_below, copies, copies_at, copy_at, grid_at, is_flash, aperture_flashes, flash_at, added_flashes, current_of, current_unit, current_decimals, what_at, moved_what, origin, first_broken, needs_aperture, has_too_many_digits, reaches_too_far, makes_too_many_flashes, flashes_too_far, is_long_coordinate, is_far_coordinate, is_far_pad, is_far_point, KeptParts, Adds, flash_count, IsStateAfter, Applies, AppliesOrRefuses, after, state_of, defined_at, pieces_at, AreLengths, IsSingleFlash, AreCachedValues, IsFlashOf, changes_cached, is_far_flash, is_within, point_of, and_false}
 use Rattle.std.proofs.lemmas.Bool.Decides.{nat_tests}
 use Rattle.grid_units.specs.declared.fault.Reason.TheVariants as reason
 use Rattle.grid_units.specs.declared.lengths.Unit.{Unit as Units}
@@ -87,7 +87,7 @@ near_length n place limit near within =
     rw unsigned_abs-mul (omega (arith, p, near))
 
 -- the length of a coordinate on the fast path
-length_is : (s : GraphicsState) (l : Lengths) → NamedLengths l s.unit s.format → (n : ℤ) → picometres (current_unit s) (current_decimals s) n ≡ n *ℤ pos l.place
+length_is : (s : GraphicsState) (l : Lengths) → NamedLengths l s.unit s.format → (n : ℤ) → picometres (current_unit (current_of s)) (current_decimals (current_of s)) n ≡ n *ℤ pos l.place
 length_is s l h n =
     (λ k. n *ℤ pos (unit_length (unwrap_or (h.unit_is k) Millimetre) / 10 ^ option_map_or (λ (f : Format). f.decimals) (h.format_is k) 0)) ∙ (λ k. n *ℤ pos (sym h.place k))
 
@@ -141,13 +141,13 @@ move_is_legal s count l action x y i j near known still has a b c d =
 
 -- a flash at one point in range, of what is near, breaks no rule
 pub flash_is_legal : (s : GraphicsState) (count : ℕ) (l : Lengths) (w : What) (action : Action) (x y i j : Option ℤ) (flash : Flash) → l.limit * l.place ≤ 10000000000000 → AreLengths l s.unit s.format
-    → IsSingleFlash w (current_unit s) (current_aperture s) s.scale s.turn s.block → is_flash action ≡ true → s.in_region ≡ false → count < 4194304
+    → IsSingleFlash w (current_unit (current_of s)) (current_aperture s) s.scale s.turn s.block → is_flash action ≡ true → s.in_region ≡ false → count < 4194304
     → nat_le (unsigned_abs (unwrap_or x s.x)) l.limit ≡ true → nat_le (unsigned_abs (unwrap_or y s.y)) l.limit ≡ true → is_within l.limit i ≡ true → is_within l.limit j ≡ true
     → flash ≡ record { at = point_of l (unwrap_or x s.x) (unwrap_or y s.y); what = moved_what (point_of l (unwrap_or x s.x) (unwrap_or y s.y)) w }
     → IsFlashOf s count (command.Operate action x y i j) flash
 flash_is_legal s count l w action x y i j flash near known is_lone flashes outside few a b c d is =
     let h = named_lengths l s.unit s.format known in
-    let single_copy = single_shape w (current_unit s) (current_aperture s) s.scale s.turn s.block is_lone in
+    let single_copy = single_shape w (current_unit (current_of s)) (current_aperture s) s.scale s.turn s.block is_lone in
     let p : GridPoint = point_of l (unwrap_or x s.x) (unwrap_or y s.y) in
     let one : copies_at s x y ≡ p ∷ [] = one_point s l x y h single_copy.columns single_copy.rows in
     let named_x : is_within l.limit x ≡ true = given_within_limit l.limit x s.x a in
@@ -165,7 +165,7 @@ flash_is_legal s count l w action x y i j flash near known is_lone flashes outsi
           ((λ k. flashes k && nat_lt 4194304 (count + length (one k))) ∙ not_one_too_many count few);
       flashes =
           (λ k. cond (flashes k) (option_map_or (aperture_flashes s x y) (single_copy.shape_is k) []) []) ∙ ap (map (flash_at s single_copy.shape)) one
-          ∙ (λ k. record { at = p; what = (sym (what_moved p (current_unit s) s.scale s.turn single_copy.shape) ∙ ap (moved_what p) (sym single_copy.value)) k } ∷ []) ∙ (λ k. sym is k ∷ []);
+          ∙ (λ k. record { at = p; what = (sym (what_moved p (current_unit (current_of s)) s.scale s.turn single_copy.shape) ∙ ap (moved_what p) (sym single_copy.value)) k } ∷ []) ∙ (λ k. sym is k ∷ []);
       few = few;
     }
 
@@ -197,17 +197,21 @@ cached_stays_valid cached s command.RepeatEnd e h = absurd cc
 
 -- ---- what a judge takes in
 
-pub move_applies : (old new : State) (action : Action) (x y i j : Option ℤ) → is_flash action ≡ false → state_of new ≡ after (command.Operate action x y i j) (state_of old) → new.flashes ≡ old.flashes
+pub move_applies : (old new : State) (action : Action) (x y i j : Option ℤ) → is_flash action ≡ false → state_of new ≡ after (command.Operate action x y i j) (state_of old) → new.macros ≡ old.macros → new.apertures ≡ old.apertures → new.flashes ≡ old.flashes
     → Applies old (command.Operate action x y i j) new
-move_applies old new action x y i j move state_after same =
+move_applies old new action x y i j move state_after macros apertures same =
     let none : added_flashes (state_of old) (command.Operate action x y i j) ≡ [] = λ k. cond (move k) (option_map_or (aperture_flashes (state_of old) x y) (current_aperture (state_of old)) []) [] in
     record {
       state_after = state_after;
+      macros = λ asked. ap pieces_at macros;
+      apertures = λ asked. ap defined_at apertures;
       flashes = subst (λ (f : Flashes). Adds old.flashes (added_flashes (state_of old) (command.Operate action x y i j)) f) (sym same) (subst (λ (l : List Flash). Adds old.flashes l old.flashes) (sym none) (adds_none old.flashes));
     }
 
-pub flash_applies : (old new : State) (c : Command) (flash : Flash) → added_flashes (state_of old) c ≡ flash ∷ [] → state_of new ≡ after c (state_of old) → Adds old.flashes (flash ∷ []) new.flashes → Applies old c new
-flash_applies old new c flash is state_after adds = record { state_after = state_after; flashes = subst (λ (l : List Flash). Adds old.flashes l new.flashes) (sym is) adds }
+pub flash_applies : (old new : State) (action : Action) (x y i j : Option ℤ) (flash : Flash) → added_flashes (state_of old) (command.Operate action x y i j) ≡ flash ∷ [] → state_of new ≡ after (command.Operate action x y i j) (state_of old)
+    → new.macros ≡ old.macros → new.apertures ≡ old.apertures → Adds old.flashes (flash ∷ []) new.flashes → Applies old (command.Operate action x y i j) new
+flash_applies old new action x y i j flash is state_after macros apertures adds =
+    record { state_after = state_after; macros = λ asked. ap pieces_at macros; apertures = λ asked. ap defined_at apertures; flashes = subst (λ (l : List Flash). Adds old.flashes l new.flashes) (sym is) adds }
 
 pub step_result : (old new : State) (c : Command) → first_broken (state_of old) (flash_count old.flashes) c ≡ None → Applies old c new → (parts : KeptParts) (before : List Command) → IsStateAfter old parts before → AppliesOrRefuses parts before c new (Ok tt)
 step_result old new c legal takes parts before is_state = (sym (same_rule old parts before c is_state) ∙ legal, state_after_one_more old new parts before c is_state takes)

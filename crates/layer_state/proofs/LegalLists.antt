@@ -1,5 +1,5 @@
 -- Lists of commands: a legal one has no first fault, and that of one is that of each longer one.
-use Rattle.layer_state.proofs.Common.{◌≡◌, ℕ, ◌+◌, List, [], ◌∷◌, ◌++◌, length, Option, Some, None, slice_get, refl, ap, ◌∙◌, filter_map, cons_option, option_map, map-append, violations, violation_at, with_prefixes_from, IsLegal, fault, violations-append, Command, Placed, Entries, fault_of, IsFirstFault, broken_rule, without_places}
+use Rattle.layer_state.proofs.Common.{◌≡◌, ℕ, List, [], ◌∷◌, ◌++◌, length, Option, Some, None, slice_get, refl, ap, ◌∙◌, filter_map, cons_option, option_map, map-append, violations, violation_at, with_prefixes_from, IsLegal, fault, violations-append, Command, Placed, Entries, fault_of, IsFirstFault, broken_rule, without_places}
 use Rattle.grid_units.specs.declared.fault.Fault.{Fault}
 use Rattle.grid_units.specs.declared.fault.Reason.{Reason}
 

@@ -1,5 +1,5 @@
 -- What is flashed at a point is what is flashed at the origin, moved there.
-use Rattle.layer_state.proofs.Common.{◌≡◌, ℤ, Bool, true, false, if◌then◌else◌, List, map, Option, None, Some, refl, option_map_or, find, GridPoint, GraphicsState, what_at, shape_at, rect_at, obround_at, swaps_sides, rules_out_pad, why_order, current_unit, flash_at, moved_what, origin, flash_moved}
+use Rattle.layer_state.proofs.Common.{◌≡◌, ℤ, Bool, true, false, if◌then◌else◌, List, map, Option, None, Some, refl, option_map_or, find, GridPoint, GraphicsState, what_at, shape_at, rect_at, obround_at, swaps_sides, rules_out_pad, why_order, current_of, current_unit, flash_at, moved_what, origin, flash_moved}
 use Rattle.grid_units.specs.declared.lengths.Unit.{Unit as Units}
 use Rattle.pad_shapes.specs.declared.pad.Pad.TheVariants as pads
 use Rattle.layer_state.specs.declared.aperture.Aperture.{Aperture}
@@ -30,5 +30,5 @@ pub what_moved : (p : GridPoint) (unit : Units) (scale turn : ℤ) (shape : Aper
 what_moved p unit scale turn shape = or_moved (find (rules_out_pad shape scale turn) why_order) p unit turn shape
 
 -- the flashes at some points are one flash, moved to each of them
-pub flashes_moved : (s : GraphicsState) (shape : Aperture) (ps : List GridPoint) → map (flash_moved (what_at origin (current_unit s) s.scale s.turn shape)) ps ≡ map (flash_at s shape) ps
-flashes_moved s shape ps = λ i. map (λ (p : GridPoint). record { at = p; what = what_moved p (current_unit s) s.scale s.turn shape i }) ps
+pub flashes_moved : (s : GraphicsState) (shape : Aperture) (ps : List GridPoint) → map (flash_moved (what_at origin (current_unit (current_of s)) s.scale s.turn shape)) ps ≡ map (flash_at s shape) ps
+flashes_moved s shape ps = λ i. map (λ (p : GridPoint). record { at = p; what = what_moved p (current_unit (current_of s)) s.scale s.turn shape i }) ps

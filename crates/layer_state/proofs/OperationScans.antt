@@ -20,7 +20,7 @@ unfolding first_broken
 mode_is_legal s count mode = refl
 
 mode_applies : (state : State) (mode : Interpolation) → Applies state (Mode mode) state
-mode_applies state mode = record { state_after = refl; flashes = adds_none state.flashes }
+mode_applies state mode = record { state_after = refl; macros = λ asked. refl; apertures = λ asked. refl; flashes = adds_none state.flashes }
 
 -- an interpolation breaks no rule, and changes nothing that the scan holds
 mode_result : (scan : Scan) (parts : KeptParts) (before : List Command) (mode : Interpolation) → HasScanned scan parts before → IsScanResult parts before (Mode mode) scan (Ok tt)

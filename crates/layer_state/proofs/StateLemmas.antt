@@ -1,7 +1,10 @@
 -- A judge that has taken in one more command knows it.
-use Rattle.layer_state.proofs.Common.{◌≡◌, ◌+◌, cond, List, [], ◌∷◌, ◌++◌, length, length-append, pos, false, sym, ap, subst, ◌∙◌, append_assoc, Flash, Flashes, KeptParts, flash_count, keeps_flashes, keeps_pads, KeepsFlashes, Adds, Command, State, state_after, no_repeat, unit_set, format_set, region_set, definition_set, defines_macro, aperture_selected, x_set, y_set, turn_set, scale_set, block_set, broken_rule, first_broken, added_flashes, flashes_of, pads_of, other_count, IsStateAfter, Applies, after, state_of, last_set-more, last_or-more, list_any-more, flat_positions-more}
+use Rattle.layer_state.proofs.Common.{◌≡◌, ◌+◌, ℕ, ℤ, Option, None, option_map_or, Action, Current, GraphicsState, ◌≤◌, copies_at, list_any, is_far_pad, is_far_point, flashes_too_far, reaches_too_far, makes_too_many_flashes, or_is_false, ltb-false, current_after, current_aperture, state_with, cond, true, is_flash, List, [], ◌∷◌, ◌++◌, length, length-append, pos, false, sym, ap, subst, ◌∙◌, append_assoc, Flash, Flashes, KeptParts, flash_count, keeps_flashes, keeps_pads, KeepsFlashes, Adds, Command, State, state_after, no_repeat, unit_set, format_set, region_set, definition_set, defines_macro, aperture_selected, x_set, y_set, turn_set, scale_set, block_set, broken_rule, first_broken, added_flashes, flashes_of, pads_of, other_count, IsStateAfter, Applies, after, state_of, last_set, last_set-more, last_or-more, with_prefixes, with_prefixes-append, Defined, aperture_at, has_name, defined_numbered, defined_set, macro_named, macro_set, option_or, keeps_shapes, list_any-more, flat_positions-more}
+use Rattle.layer_state.specs.Rules.{max_flashes}
+use Rattle.layer_state.proofs.RulesLemmas.{few_flashes, near_flash, not_too_far, not_too_many}
 use Rattle.layer_state.proofs.KeptFlashesLemmas.{kept_append, kept_pads, others_append}
 use Rattle.gerber_commands.specs.Pieces.{unit_scale}
+use Rattle.gerber_commands.specs.declared.command.Command.TheVariants as command
 
 -- the state after one more command
 pub state_after-more : (before : List Command) (c : Command) → state_after (before ++ c ∷ []) ≡ after c (state_after before)
@@ -18,6 +21,34 @@ state_after-more before c = λ i. record {
   scale = last_or-more scale_set unit_scale before c i;
   block = last_or-more block_set no_repeat before c i;
 }
+
+-- the aperture of a number after one more command
+pub defined_numbered-more : (before : List Command) (c : Command) (number : ℕ) → defined_numbered (before ++ c ∷ []) number ≡ option_or (defined_set (last_set unit_set before) (macro_named before) number c) (defined_numbered before number)
+defined_numbered-more before c number =
+    let sets : List Command × Command → Option Defined = λ p. defined_set (last_set unit_set p.0) (macro_named p.0) number p.1 in
+    ap (last_set sets) (with_prefixes-append before (c ∷ [])) ∙ last_set-more sets (with_prefixes before) (before, c)
+
+-- the judge once the point of an operation is the current one
+pub at_point : (old : State) (now : Current) (action : Action) (x y i j : Option ℤ) → now ≡ current_after (command.Operate action x y i j) old.current
+    → state_with now (aperture_at old.apertures) (has_name old.macros) ≡ after (command.Operate action x y i j) (state_of old)
+at_point old now action x y i j h = λ k. state_with (h k) (aperture_at old.apertures) (has_name old.macros)
+
+-- a flash at the current point is near, and its copies are not too many
+pub record FlashFits (s : GraphicsState) (count : ℕ) : Type 0 where
+  pub points : list_any is_far_point (copies_at s None None) ≡ false
+  pub pad : option_map_or (is_far_pad s) (current_aperture s) false ≡ false
+  pub few : count + length (copies_at s None None) ≤ max_flashes
+
+-- so it is with one that breaks no rule, once its point is the current one
+pub flash_fits : (old : State) (now : Current) (c : Command) (action : Action) (x y i j : Option ℤ) → first_broken (state_of old) (flash_count old.flashes) c ≡ None → now ≡ current_after c old.current
+    → c ≡ command.Operate action x y i j → is_flash action ≡ true → FlashFits (state_with now (aperture_at old.apertures) (has_name old.macros)) (flash_count old.flashes)
+flash_fits old now c action x y i j legal is what flash =
+    let s = state_of old in
+    let count = flash_count old.flashes in
+    let near : flashes_too_far s x y ≡ false = near_flash s action x y i j (subst (λ (d : Command). reaches_too_far s d ≡ false) what (not_too_far s count c legal)) flash in
+    let both = or_is_false (list_any is_far_point (copies_at s x y)) (option_map_or (is_far_pad s) (current_aperture s) false) near in
+    let few = ltb-false _ _ (few_flashes s count action x y i j (subst (λ (d : Command). makes_too_many_flashes s count d ≡ false) what (not_too_many s count c legal)) flash) in
+    subst (λ (t : GraphicsState). FlashFits t count) (sym (at_point old now action x y i j (is ∙ ap (λ (d : Command). current_after d old.current) what))) (record { points = both.0; pad = both.1; few = few })
 
 -- the rule that a command breaks after these is the one that the judge finds
 pub same_rule : (state : State) (parts : KeptParts) (before : List Command) (c : Command) → IsStateAfter state parts before → first_broken (state_of state) (flash_count state.flashes) c ≡ broken_rule before c
@@ -37,7 +68,11 @@ pub state_after_one_more : (old new : State) (parts : KeptParts) (before : List 
 state_after_one_more old new parts before c is_state takes =
     let fs : flashes_of before ++ added_flashes (state_of old) c ≡ flashes_of (before ++ c ∷ []) =
     (λ i. flashes_of before ++ added_flashes (is_state.state_after i) c) ∙ sym (flat_positions-more (λ first d. added_flashes (state_after first) d) before c) in
+    let same : keeps_shapes old.flashes.keep ≡ keeps_shapes parts.keep = ap keeps_shapes is_state.flashes.same in
     record {
       state_after = takes.state_after ∙ ap (after c) is_state.state_after ∙ sym (state_after-more before c);
+      macros = λ asked. takes.macros (same ∙ asked) ∙ (λ i name. option_or (macro_set name c) (is_state.macros asked i name)) ∙ sym (λ i name. last_set-more (macro_set name) before c i);
+      apertures = λ asked.
+          takes.apertures (same ∙ asked) ∙ (λ i number. option_or (defined_set (is_state.state_after i).unit (is_state.macros asked i) number c) (is_state.apertures asked i number)) ∙ sym (λ i number. defined_numbered-more before c number i);
       flashes = subst (KeepsFlashes new.flashes parts) fs (keeps_more old.flashes new.flashes parts (flashes_of before) (added_flashes (state_of old) c) is_state.flashes takes.flashes);
     }

@@ -15,12 +15,12 @@ text_is_legal s count (kinds.Attribute which) text outside = rw outside refl
 text_is_legal s count kinds.Remove text outside = rw outside refl
 
 text_applies : (state : State) (kind : TextKind) (text : List ℕ) → Applies state (text_command kind text) state
-text_applies state kinds.Comment text = record { state_after = refl; flashes = adds_none state.flashes }
-text_applies state (kinds.Attribute which) text = record { state_after = refl; flashes = adds_none state.flashes }
-text_applies state kinds.Remove text = record { state_after = refl; flashes = adds_none state.flashes }
+text_applies state kinds.Comment text = record { state_after = refl; macros = λ asked. refl; apertures = λ asked. refl; flashes = adds_none state.flashes }
+text_applies state (kinds.Attribute which) text = record { state_after = refl; macros = λ asked. refl; apertures = λ asked. refl; flashes = adds_none state.flashes }
+text_applies state kinds.Remove text = record { state_after = refl; macros = λ asked. refl; apertures = λ asked. refl; flashes = adds_none state.flashes }
 
 -- it changes nothing but the file function
-text_result : (old new : Scan) (parts : KeptParts) (before : List Command) (kind : TextKind) (text : List ℕ) → old.state.state.in_region ≡ false → new.state ≡ old.state → new.file_function ≡ option_or (function_set (text_command kind text)) old.file_function → HasScanned old parts before
+text_result : (old new : Scan) (parts : KeptParts) (before : List Command) (kind : TextKind) (text : List ℕ) → old.state.state.current.in_region ≡ false → new.state ≡ old.state → new.file_function ≡ option_or (function_set (text_command kind text)) old.file_function → HasScanned old parts before
     → IsScanResult parts before (text_command kind text) new (Ok tt)
 text_result old new parts before kind text outside same named h =
     let state = old.state.state in
@@ -32,7 +32,7 @@ text_result old new parts before kind text outside same named h =
       },
     )
 
-pub text_scanned : (old new : Scan) (parts : KeptParts) (before : Entries) (place byte : ℕ) (kind : TextKind) (text : List ℕ) → old.state.state.in_region ≡ false → new.state ≡ old.state → new.file_function ≡ option_or (function_set (text_command kind text)) old.file_function → HasScannedLegal old parts before
+pub text_scanned : (old new : Scan) (parts : KeptParts) (before : Entries) (place byte : ℕ) (kind : TextKind) (text : List ℕ) → old.state.state.current.in_region ≡ false → new.state ≡ old.state → new.file_function ≡ option_or (function_set (text_command kind text)) old.file_function → HasScannedLegal old parts before
     → HasScannedLegal new parts (before ++ item_entries place byte (text_command kind text ∷ []))
 text_scanned old new parts before place byte kind text outside same named h =
     scanned_more old new parts before (record { place = place; byte = byte; what = text_command kind text }) h (text_result old new parts (without_places before) kind text outside same named h.met)

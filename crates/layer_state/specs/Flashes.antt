@@ -20,12 +20,13 @@ use Rattle.gerber_commands.specs.declared.command.Command.TheVariants as command
 use Rattle.layer_state.specs.declared.grid.CopyGrid.{CopyGrid}
 use Rattle.layer_state.specs.declared.aperture.Aperture.{Aperture}
 use Rattle.layer_state.specs.declared.aperture.Aperture.TheVariants as aperture
+use Rattle.layer_state.specs.declared.current.Current.{Current}
 use Rattle.pad_shapes.specs.declared.row.Why.{Why}
 use Rattle.pad_shapes.specs.declared.row.Why.TheVariants as why
 use Rattle.layer_state.specs.declared.flash.What.{What}
 use Rattle.layer_state.specs.declared.flash.What.TheVariants as what
 use Rattle.layer_state.specs.declared.flash.Flash.{Flash}
-use Rattle.layer_state.specs.Lookback.{GraphicsState, state_after, current_aperture}
+use Rattle.layer_state.specs.Lookback.{GraphicsState, state_after, current_aperture, current_of}
 use Rattle.layer_state.specs.Numbers.{dec_length, half_length}
 use Rattle.gerber_commands.specs.Pieces.{unit_scale}
 
@@ -114,23 +115,23 @@ what_at p unit scale turn shape = option_map_or what.Other (find (rules_out_pad 
 -- ---- at a position
 
 -- the unit that was named; no operation is legal before one is
-abbrev pub current_unit : GraphicsState → Units
-current_unit s = unwrap_or s.unit Millimetre
+abbrev pub current_unit : Current → Units
+current_unit now = unwrap_or now.unit Millimetre
 
 -- the decimals of the format that was named; no operation is legal before one is
-abbrev pub current_decimals : GraphicsState → ℕ
-current_decimals s = option_map_or (λ (f : Format). f.decimals) s.format 0
+abbrev pub current_decimals : Current → ℕ
+current_decimals now = option_map_or (λ (f : Format). f.decimals) now.format 0
 
 -- The point of an operation and the block that is open, in pm. Each coordinate is the one that the operation names, else the last
 -- one named before it, else 0.
 abbrev pub grid_at : GraphicsState → Option ℤ → Option ℤ → CopyGrid
 grid_at s x y = record {
-  x = picometres (current_unit s) (current_decimals s) (unwrap_or x s.x);
-  y = picometres (current_unit s) (current_decimals s) (unwrap_or y s.y);
+  x = picometres (current_unit (current_of s)) (current_decimals (current_of s)) (unwrap_or x s.x);
+  y = picometres (current_unit (current_of s)) (current_decimals (current_of s)) (unwrap_or y s.y);
   columns = s.block.columns;
   rows = s.block.rows;
-  step_x = dec_length (current_unit s) s.block.step_x;
-  step_y = dec_length (current_unit s) s.block.step_y;
+  step_x = dec_length (current_unit (current_of s)) s.block.step_x;
+  step_y = dec_length (current_unit (current_of s)) s.block.step_y;
 }
 
 -- the points of an operation, one for each copy
@@ -139,7 +140,7 @@ copies_at s x y = copies (grid_at s x y)
 
 -- a flash of the aperture at a point
 abbrev pub flash_at : GraphicsState → Aperture → GridPoint → Flash
-flash_at s shape p = record { at = p; what = what_at p (current_unit s) s.scale s.turn shape }
+flash_at s shape p = record { at = p; what = what_at p (current_unit (current_of s)) s.scale s.turn shape }
 
 -- the flashes of the aperture, one for each copy
 abbrev pub aperture_flashes : GraphicsState → Option ℤ → Option ℤ → Aperture → List Flash

@@ -1,7 +1,6 @@
 -- What a scan over commands holds.
 use Rattle.std.specs.Prelude.{◌≡◌, Bool, List, [], ◌∷◌, ◌++◌, length, None, Some, Result, Ok, Err, if◌then◌else◌}
 use Rattle.grid_units.specs.Lists.{IsLegal}
-use Rattle.grid_units.specs.declared.fault.Fail.TheVariants as fails
 use Rattle.pad_shapes.specs.declared.pad.Pad.{Pad}
 use Rattle.gerber_commands.specs.declared.command.Command.{Command}
 use Rattle.gerber_text.specs.Reading.{Entries}
@@ -24,7 +23,7 @@ pub record HasScanned (scan : Scan) (parts : KeptParts) (before : List Command) 
 
 -- a region is open after the commands that a scan has met
 abbrev pub is_scanning_region : Scan → Bool
-is_scanning_region scan = scan.state.state.in_region
+is_scanning_region scan = scan.state.state.current.in_region
 
 -- the flashes that a scan holds, without those that were taken from it
 abbrev pub scanned_flashes : Scan → List Flash

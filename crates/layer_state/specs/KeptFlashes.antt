@@ -19,6 +19,11 @@ keeps_pads keep.All = true
 keeps_pads keep.Flashes = false
 keeps_pads keep.Pads = true
 
+-- the macros, and the shapes that they give apertures, are kept
+abbrev pub keeps_shapes : FlashKeep → Bool
+keeps_shapes keep.Flashes = true
+keeps_shapes _ = false
+
 -- the parts of a layer that are kept, and the pads and the flashes that were taken from them, the first ones of the layer
 pub record KeptParts : Type 0 where
   pub keep : FlashKeep

@@ -4,6 +4,7 @@ pub mod Flashes
 pub mod Pads
 pub mod Rules
 pub mod Tables
+pub mod Shapes
 pub mod KeptFlashes
 pub mod Faults
 pub mod FileFunction

@@ -14,6 +14,7 @@ use Rattle.gerber_commands.specs.declared.command.Command.{Command}
 use Rattle.gerber_commands.specs.declared.command.Command.TheVariants as command
 use Rattle.layer_state.specs.declared.aperture.Aperture.{Aperture}
 use Rattle.layer_state.specs.declared.aperture.Aperture.TheVariants as aperture
+use Rattle.layer_state.specs.declared.current.Current.{Current}
 use Rattle.gerber_commands.specs.Pieces.{unit_scale}
 
 -- ---- what one command names
@@ -128,6 +129,10 @@ state_after before = record {
   scale = unwrap_or (last_set scale_set before) unit_scale;
   block = unwrap_or (last_set block_set before) no_repeat;
 }
+
+-- the state without the tables of what is defined
+abbrev pub current_of : GraphicsState → Current
+current_of s = record { unit = s.unit; format = s.format; in_region = s.in_region; selected = s.selected; x = s.x; y = s.y; turn = s.turn; scale = s.scale; block = s.block }
 
 -- the aperture of the number that was selected last (Gerber format, Current aperture Dnn)
 abbrev pub current_aperture : GraphicsState → Option Aperture

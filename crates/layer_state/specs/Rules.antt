@@ -18,7 +18,7 @@ use Rattle.gerber_commands.specs.declared.command.Command.{Command}
 use Rattle.gerber_commands.specs.declared.command.Command.TheVariants as command
 use Rattle.layer_state.specs.declared.aperture.Aperture.{Aperture}
 use Rattle.layer_state.specs.declared.aperture.Aperture.TheVariants as aperture
-use Rattle.layer_state.specs.Lookback.{GraphicsState, state_after, current_aperture, size_at}
+use Rattle.layer_state.specs.Lookback.{GraphicsState, state_after, current_aperture, current_of, size_at}
 use Rattle.layer_state.specs.Numbers.{dec_length, is_long}
 use Rattle.layer_state.specs.Flashes.{current_unit, current_decimals, copies_at, flashes_of, is_flash, rules_out_pad, why_order}
 
@@ -153,7 +153,7 @@ has_too_many_digits s _ = false
 
 -- a coordinate that the operation has is above 10 m in absolute value
 abbrev pub is_far_coordinate : GraphicsState → Option ℤ → Bool
-is_far_coordinate s named = option_map_or (λ n. is_too_far (picometres (current_unit s) (current_decimals s) n)) named false
+is_far_coordinate s named = option_map_or (λ n. is_too_far (picometres (current_unit (current_of s)) (current_decimals (current_of s)) n)) named false
 
 -- a point lies more than 10 m from zero along an axis
 abbrev pub is_far_point : GridPoint → Bool
@@ -173,7 +173,7 @@ is_far_side unit side = is_too_far (dec_length unit side)
 
 -- a flash of the aperture is a pad with a size above 10 m
 abbrev pub is_far_pad : GraphicsState → Aperture → Bool
-is_far_pad s shape = is_none (find (rules_out_pad shape s.scale s.turn) why_order) && list_any (is_far_side (current_unit s)) (sides shape)
+is_far_pad s shape = is_none (find (rules_out_pad shape s.scale s.turn) why_order) && list_any (is_far_side (current_unit (current_of s))) (sides shape)
 
 -- a copy of the flash lies more than 10 m out, or the flash is a pad with a size above 10 m
 abbrev pub flashes_too_far : GraphicsState → Option ℤ → Option ℤ → Bool

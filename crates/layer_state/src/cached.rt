@@ -64,7 +64,7 @@ impl CachedState {
         let offset_x = i.get();
         let offset_y = j.get();
         if self.is_plain_move(action, across, up, offset_x, offset_y) {
-            self.state.set_point(across, up);
+            self.state.current.set_point(across, up);
             return Ok(());
         }
         if let Some(flash) = self.flash(action, across, up, offset_x, offset_y) {
@@ -121,15 +121,16 @@ impl CachedState {
     ) -> Option<Flash>
         ensures { IfSome result (λ flash. IsFlashOf (state_of self.now.state) (flash_count self.now.state.flashes) (command.Operate action x y i j) flash) }
     {
-        if !is_flash(action) || self.state.in_region || self.state.flashes.count >= MAX_FLASHES {
+        let state = &self.state;
+        if !is_flash(action) || state.current.in_region || state.flashes.count >= MAX_FLASHES {
             return None;
         }
         if !self.cached.ready || !self.cached.single_copy {
             return None;
         }
         let lengths = &self.cached.lengths;
-        let across = x.unwrap_or(self.state.x);
-        let up = y.unwrap_or(self.state.y);
+        let across = x.unwrap_or(state.current.x);
+        let up = y.unwrap_or(state.current.y);
         if !lengths.has(Some(across)) || !lengths.has(Some(up)) {
             return None;
         }

@@ -98,7 +98,7 @@ impl CachedValues {
     pub(crate) fn of(state: &State) -> CachedValues
         ensures { AreCachedValues result (state_of state.now) }
     {
-        let lengths = Lengths::of(state.unit, state.format);
+        let lengths = Lengths::of(state.current.unit, state.current.format);
         let what = state.single_flash();
         CachedValues {
             ready: lengths.is_some(),

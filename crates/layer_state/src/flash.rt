@@ -24,6 +24,8 @@ pub struct Flash {
 
 impl What {
     /// What the flash leaves, moved to another point.
+    // Each flash of a plain layer comes here: with a call it takes a hundredth more of the whole.
+    #[inline(always)]
     pub(crate) fn at(&self, centre: Point) -> What
         ensures { result ≡ moved_what centre self.now }
     {
@@ -51,14 +53,14 @@ impl What {
 pub enum FlashKeep {
     /// Flashes, and the pads among them in a list of their own.
     All,
-    /// Flashes alone.
+    /// Flashes alone, with the shapes that macros give apertures.
     Flashes,
     /// Pads alone.
     Pads,
 }
 
 impl FlashKeep {
-    ghost use Rattle.layer_state.specs.KeptFlashes.{keeps_flashes, keeps_pads};
+    ghost use Rattle.layer_state.specs.KeptFlashes.{keeps_flashes, keeps_pads, keeps_shapes};
 
     /// Whether each flash is kept.
     pub(crate) fn flashes(self) -> bool
@@ -72,5 +74,12 @@ impl FlashKeep {
         ensures { result ≡ keeps_pads self }
     {
         matches!(self, FlashKeep::All | FlashKeep::Pads)
+    }
+
+    /// Whether the macros, and the shapes that they give apertures, are kept.
+    pub(crate) fn shapes(self) -> bool
+        ensures { result ≡ keeps_shapes self }
+    {
+        matches!(self, FlashKeep::Flashes)
     }
 }

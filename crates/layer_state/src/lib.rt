@@ -13,14 +13,15 @@ mod length;
 mod mirroring;
 mod rules;
 mod scan;
+mod shapes;
 mod size;
 mod state;
 mod tables;
 
-pub use aperture::{has_hole, size_at};
-pub use current::ONE;
+pub use aperture::Aperture;
+pub use current::{Current, ONE};
 pub use flash::{Flash, FlashKeep, What};
 pub use length::{dec_length, step_length};
 pub use mirroring::{Mirroring, oriented, quarter_turns};
 pub use scan::{Scan, Scanned};
-pub use state::no_repeat;
+pub use tables::{Apertures, Defined};

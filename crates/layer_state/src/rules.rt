@@ -21,11 +21,11 @@ impl State {
     pub(crate) fn broken_rule(&self, command: &Command) -> Option<Reason>
         ensures { result ≡ first_broken (state_of self.now) (flash_count self.now.flashes) command.now }
     {
-        if self.in_region && !is_allowed_in_region(command) {
+        if self.current.in_region && !is_allowed_in_region(command) {
             return Some(Reason::InRegion);
         }
         match command {
-            Command::RegionEnd => (!self.in_region).then_some(Reason::NotInRegion),
+            Command::RegionEnd => (!self.current.in_region).then_some(Reason::NotInRegion),
             Command::UnitIs(unit) => self.differs_in_unit(*unit).then_some(Reason::UnitConflict),
             Command::FormatIs(format) => self
                 .differs_in_format(*format)
@@ -64,7 +64,7 @@ impl State {
     fn differs_in_unit(&self, unit: Unit) -> bool
         ensures { result ≡ differs_in_unit (state_of self.now) (command.UnitIs unit) }
     {
-        match self.unit {
+        match self.current.unit {
             Some(other) => other != unit,
             None => false,
         }
@@ -73,7 +73,7 @@ impl State {
     fn differs_in_format(&self, format: Format) -> bool
         ensures { result ≡ differs_in_format (state_of self.now) (command.FormatIs format) }
     {
-        match self.format {
+        match self.current.format {
             Some(other) => other.whole != format.whole || other.decimals != format.decimals,
             None => false,
         }
@@ -82,9 +82,9 @@ impl State {
     fn finish_rule(&self) -> Option<Reason>
         ensures { result ≡ find (breaks_rule (state_of self.now) (flash_count self.now.flashes) command.Finish) later_rules }
     {
-        if self.format.is_none() {
+        if self.current.format.is_none() {
             Some(Reason::NoFormat)
-        } else if self.unit.is_none() {
+        } else if self.current.unit.is_none() {
             Some(Reason::NoUnit)
         } else {
             None
@@ -124,10 +124,10 @@ impl State {
     ) -> Option<Reason>
         ensures { result ≡ find (breaks_rule (state_of self.now) (flash_count self.now.flashes) (command.Operate action x y i j)) later_rules }
     {
-        let Some(format) = self.format else {
+        let Some(format) = self.current.format else {
             return Some(Reason::NoFormat);
         };
-        if self.unit.is_none() {
+        if self.current.unit.is_none() {
             Some(Reason::NoUnit)
         } else if self.lacks_aperture(action) {
             Some(Reason::NoAperture)
@@ -149,21 +149,21 @@ impl State {
     }
 
     pub(crate) fn lacks_aperture(&self, action: Action) -> bool
-        ensures { result ≡ (needs_aperture action self.now.in_region && is_none self.now.selected) }
+        ensures { result ≡ (needs_aperture action self.now.current.in_region && is_none self.now.current.selected) }
     {
         let needed = match action {
-            Action::Plot => !self.in_region,
+            Action::Plot => !self.current.in_region,
             Action::Move => false,
             Action::Flash => true,
         };
-        needed && self.selected.is_none()
+        needed && self.current.selected.is_none()
     }
 
     fn has_far_coordinate(&self, named: Option<i64>) -> bool
         ensures { result ≡ is_far_coordinate (state_of self.now) named }
     {
         match named {
-            Some(n) => is_too_far(coordinate(n, self.current_decimals(), self.current_unit())),
+            Some(n) => is_too_far(coordinate(n, self.current.decimals(), self.current.unit())),
             None => false,
         }
     }

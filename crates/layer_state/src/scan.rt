@@ -1,6 +1,6 @@
 //! A scan over commands: each is judged and then dropped, and what the layer is made of is kept.
 
-ghost use Rattle.std.specs.Prelude.{◌≡◌, ◌++◌, [], ◌∷◌, ℕ, List, OnOk, IfErr, false};
+ghost use Rattle.std.specs.Prelude.{◌≡◌, ◌++◌, [], ◌∷◌, ℕ, List, OnOk, IfErr, false, true};
 ghost use Rattle.grid_units.specs.Results.{IfFault};
 ghost use Rattle.gerber_commands.specs.declared.command.Command.{Command};
 ghost use Rattle.gerber_text.specs.FastPath.{text_command};
@@ -8,11 +8,16 @@ ghost use Rattle.gerber_text.specs.Reading.{Entries, item_entries};
 ghost use Rattle.gerber_text.specs.Holding.{passed_entries};
 ghost use Rattle.layer_state.specs.Faults.{fail_at, IsFirstFault};
 ghost use Rattle.gerber_text.specs.Writing.{without_places};
-ghost use Rattle.layer_state.specs.KeptFlashes.{KeptParts, taking_flashes, taking_pads, without_pads};
+ghost use Rattle.layer_state.specs.Lookback.{current_of, state_after};
+ghost use Rattle.layer_state.specs.KeptFlashes.{KeptParts, keeps_shapes, taking_flashes, taking_pads, without_pads};
+ghost use Rattle.layer_state.specs.Shapes.{defined_numbered};
+ghost use Rattle.layer_state.specs.Tables.{defined_at};
 
 use crate::cached::CachedState;
+use crate::current::Current;
 use crate::flash::{Flash, FlashKeep};
 use crate::function::{function_in_text, function_set};
+use crate::tables::Apertures;
 use gerber_text::{Command, LeadingOperation, PassedOperation, Placed, TextKind};
 use grid_units::{Fail, Fault, ItemFail, Text};
 use pad_shapes::Pad;
@@ -84,9 +89,9 @@ impl Scan {
     /// # Errors
     ///
     /// The fault of an operation that breaks a rule; `Memory` where an allocation failed.
-    pub fn operate(&mut self, passed: PassedOperation) -> Result<(), Fail>
-        ensures ok { (parts : KeptParts) (before : Entries) → HasScannedLegal self.old parts before → OnOk result (HasScannedLegal self.new parts (before ++ passed_entries passed)) }
-        ensures refused { (parts : KeptParts) (before : Entries) → HasScannedLegal self.old parts before → IfErr result (IfFault (IsFirstFault (before ++ passed_entries passed))) }
+    pub fn operate(&mut self, passed: &PassedOperation) -> Result<(), Fail>
+        ensures ok { (parts : KeptParts) (before : Entries) → HasScannedLegal self.old parts before → OnOk result (HasScannedLegal self.new parts (before ++ passed_entries passed.now)) }
+        ensures refused { (parts : KeptParts) (before : Entries) → HasScannedLegal self.old parts before → IfErr result (IfFault (IsFirstFault (before ++ passed_entries passed.now))) }
     {
         let LeadingOperation {
             action,
@@ -138,7 +143,21 @@ impl Scan {
     pub fn in_region(&self) -> bool
         ensures { result ≡ is_scanning_region self.now }
     {
-        self.state.state.in_region
+        self.state.state.current.in_region
+    }
+
+    /// What the commands so far say last.
+    pub fn current(&self) -> &Current
+        ensures { (parts : KeptParts) (before : Entries) → HasScannedLegal self.now parts before → result.now ≡ current_of (state_after (without_places before)) }
+    {
+        &self.state.state.current
+    }
+
+    /// The apertures that the commands so far define, with their shapes, where shapes are kept.
+    pub fn apertures(&self) -> &Apertures
+        ensures { (parts : KeptParts) (before : Entries) → HasScannedLegal self.now parts before → keeps_shapes parts.keep ≡ true → defined_at result.now ≡ defined_numbered (without_places before) }
+    {
+        &self.state.state.apertures
     }
 
     /// The flashes that are held, in order: those since the last [`Scan::clear_flashes`]. None where flashes are not kept.

@@ -1,42 +1,38 @@
 //! The judge: it meets the commands of a list one by one, and names the first rule that one of them breaks.
 
-ghost use Rattle.std.specs.Prelude.{◌≡◌, ◌+◌, ◌<◌, ◌≤◌, [], ◌∷◌, List, nat_lt, Option, ℤ, IfErr, OnOk, None, length, true, false};
+ghost use Rattle.std.specs.Prelude.{◌≡◌, ◌+◌, ◌<◌, ◌≤◌, [], ◌∷◌, List, Option, ℤ, IfErr, IfOk, OnOk, None, Some, length, false, true};
 ghost use Rattle.std.specs.Option.{option_map_or};
 ghost use Rattle.std.specs.List.{list_any};
 ghost use Rattle.gerber_commands.specs.declared.command.Action.{Action as TheAction};
 ghost use Rattle.gerber_commands.specs.declared.command.Command.{Command};
 ghost use Rattle.gerber_commands.specs.declared.command.Command.TheVariants as command;
-ghost use Rattle.layer_state.specs.Lookback.{current_aperture, no_repeat};
-ghost use Rattle.layer_state.specs.Flashes.{copies_at, aperture_flashes, is_flash};
-ghost use Rattle.layer_state.specs.Rules.{first_broken, flashes_too_far, is_far_pad, is_far_point, max_flashes};
-ghost use Rattle.layer_state.specs.KeptFlashes.{Adds, KeptParts, flash_count, without_pads};
+ghost use Rattle.layer_state.specs.Lookback.{current_aperture};
+ghost use Rattle.layer_state.specs.Flashes.{copies_at, aperture_flashes};
+ghost use Rattle.layer_state.specs.Rules.{first_broken, is_far_pad, is_far_point, max_flashes};
+ghost use Rattle.layer_state.specs.KeptFlashes.{Adds, KeptParts, flash_count, keeps_shapes, without_pads};
 ghost use Rattle.layer_state.specs.Inner.IsStateAfter.{IsStateAfter, Applies, AppliesOrRefuses, IfRefused, state_of, after};
+ghost use Rattle.layer_state.specs.Shapes.{macro_shape};
+ghost use Rattle.layer_state.specs.Tables.{pieces_at};
 
 use crate::aperture::aperture_of;
-use crate::current::ONE;
+use crate::current::Current;
 use crate::flash::{Flash, FlashKeep};
 use crate::flashes::Flashes;
 use crate::rules::is_flash;
-use crate::tables::{Apertures, Names};
-use gerber_text::{Action, Command, Format, StepRepeat};
-use grid_units::{Dec, ItemFail, Unit};
+use crate::shapes::{by_macro, bytes_of, within_limits};
+use crate::tables::{Apertures, Defined, Macros, copy_of};
+use gerber_text::{Command, Pieces, Template};
+use grid_units::ItemFail;
+use pad_shapes::SharedRounded;
 use std::alloc::{AllocError, Global};
 
 /// The state that the commands so far make, and their flashes.
 #[derive(Drop)]
 pub(crate) struct State {
     alloc: Global,
-    pub(crate) unit: Option<Unit>,
-    pub(crate) format: Option<Format>,
-    pub(crate) in_region: bool,
+    pub(crate) current: Current,
     pub(crate) apertures: Apertures,
-    pub(crate) macros: Names,
-    pub(crate) selected: Option<u32>,
-    pub(crate) x: i64,
-    pub(crate) y: i64,
-    pub(crate) turn: Dec,
-    pub(crate) scale: Dec,
-    pub(crate) block: StepRepeat,
+    pub(crate) macros: Macros,
     pub(crate) flashes: Flashes,
 }
 
@@ -47,17 +43,9 @@ impl State {
     {
         State {
             alloc,
-            unit: None,
-            format: None,
-            in_region: false,
+            current: Current::new(),
             apertures: Apertures::new(alloc),
-            macros: Names::new(alloc),
-            selected: None,
-            x: 0,
-            y: 0,
-            turn: Dec::from_units(0).unwrap(),
-            scale: Dec::from_units(ONE).unwrap(),
-            block: no_repeat(),
+            macros: Macros::new(alloc),
             flashes: Flashes::new(alloc, keep),
         }
     }
@@ -75,66 +63,72 @@ impl State {
         Ok(())
     }
 
-    /// Applies a command that breaks no rule.
+    /// Applies a command that breaks no rule. A flash lies at the point that its command makes the current one.
     fn take(&mut self, command: &Command) -> Result<(), AllocError>
         requires { first_broken (state_of self.old) (flash_count self.old.flashes) command.now ≡ None }
         ensures { OnOk result (Applies self.old command.now self.new) }
     {
+        self.current.take(command);
         match command {
-            Command::RegionStart => self.in_region = true,
-            Command::RegionEnd => self.in_region = false,
-            Command::UnitIs(unit) => self.unit = Some(*unit),
-            Command::FormatIs(format) => self.format = Some(*format),
             Command::Define { number, template } => {
-                self.apertures.insert(*number, aperture_of(template.get()))?;
+                let template = template.get();
+                let aperture = aperture_of(template);
+                let shape = self.kept_shape(*number, template)?;
+                self.apertures.insert(*number, Defined { aperture, shape })?;
             }
-            Command::Macro(name, _) => self.macros.insert(self.alloc, name)?,
-            Command::Select(number) => self.selected = Some(*number),
-            Command::Operate { action, x, y, .. } => self.operate(*action, x.get(), y.get())?,
-            Command::Turn(turn) => self.turn = *turn,
-            Command::Scale(scale) => self.scale = *scale,
-            Command::Repeat(block) => self.block = *block,
-            Command::RepeatEnd => self.block = no_repeat(),
-            Command::Comment(_)
-            | Command::Mode(_)
-            | Command::Quadrant(_)
-            | Command::Dark
-            | Command::Clear
-            | Command::Mirror { .. }
-            | Command::Attribute(_, _)
-            | Command::Remove(_)
-            | Command::Finish => {}
+            Command::Macro(name, pieces) => {
+                let pieces = self.kept_pieces(pieces.get())?;
+                self.macros.insert(self.alloc, name, pieces)?;
+            }
+            Command::Operate { action, .. } if is_flash(*action) => self.flash()?,
+            _ => {}
         }
         Ok(())
     }
 
-    /// Flashes the aperture that was selected last, if there is one, once for each copy of the point of an operation.
-    fn flash(&mut self, x: Option<i64>, y: Option<i64>) -> Result<(), AllocError>
-        requires points { list_any is_far_point (copies_at (state_of self.old) x y) ≡ false }
+    /// The shape of the aperture of a number, where shapes are asked for and it has one.
+    fn kept_shape(
+        &self,
+        number: u32,
+        template: &Template,
+    ) -> Result<Option<SharedRounded>, AllocError>
+        ensures { keeps_shapes self.now.flashes.keep ≡ true → IfOk result (λ s. s ≡ macro_shape self.now.current.unit (pieces_at self.now.macros) number template.now) }
+    {
+        match template {
+            Template::Named(name, parameters) if self.flashes.keep.shapes() => {
+                let pieces = within_limits(number, self.macros.get(name));
+                by_macro(self.alloc, self.current.unit, pieces, bytes_of(parameters))
+            }
+            Template::Named(_, _) | Template::Standard(_, _) => Ok(None),
+        }
+    }
+
+    /// A copy of the pieces of a macro, where shapes are asked for.
+    fn kept_pieces(&self, pieces: &Pieces) -> Result<Option<Pieces>, AllocError>
+        ensures { keeps_shapes self.now.flashes.keep ≡ true → IfOk result (λ kept. kept ≡ Some pieces.now) }
+    {
+        if !self.flashes.keep.shapes() {
+            return Ok(None);
+        }
+        Ok(Some(copy_of(self.alloc, pieces.texts())?))
+    }
+
+    /// Flashes the aperture that was selected last, if there is one, once for each copy of the current point.
+    fn flash(&mut self) -> Result<(), AllocError>
+        requires points { list_any is_far_point (copies_at (state_of self.old) None None) ≡ false }
         requires pad { option_map_or (is_far_pad (state_of self.old)) (current_aperture (state_of self.old)) false ≡ false }
-        requires few { flash_count self.old.flashes + length (copies_at (state_of self.old) x y) ≤ max_flashes }
+        requires few { flash_count self.old.flashes + length (copies_at (state_of self.old) None None) ≤ max_flashes }
         ensures state_of { state_of self.new ≡ state_of self.old }
-        ensures flashes { OnOk result (Adds self.old.flashes (option_map_or (aperture_flashes (state_of self.old) x y) (current_aperture (state_of self.old)) []) self.new.flashes) }
+        ensures macros { self.new.macros ≡ self.old.macros }
+        ensures apertures { self.new.apertures ≡ self.old.apertures }
+        ensures flashes { OnOk result (Adds self.old.flashes (option_map_or (aperture_flashes (state_of self.old) None None) (current_aperture (state_of self.old)) []) self.new.flashes) }
     {
         let Some(aperture) = self.aperture() else {
             return Ok(());
         };
         let what = self.what(&aperture);
-        let grid = self.grid(x, y);
+        let grid = self.grid(None, None);
         self.flashes.lay(&grid, &what)
-    }
-
-    /// Applies an operation: its flashes, and then its point.
-    fn operate(&mut self, action: Action, x: Option<i64>, y: Option<i64>) -> Result<(), AllocError>
-        requires near { is_flash action ≡ true → flashes_too_far (state_of self.old) x y ≡ false }
-        requires few { is_flash action ≡ true → nat_lt max_flashes (flash_count self.old.flashes + length (copies_at (state_of self.old) x y)) ≡ false }
-        ensures { OnOk result ((i j : Option ℤ) → Applies self.old (command.Operate action x y i j) self.new) }
-    {
-        if is_flash(action) {
-            self.flash(x, y)?;
-        }
-        self.set_point(x, y);
-        Ok(())
     }
 
     /// Adds one flash, and makes the point of its operation the current one.
@@ -146,31 +140,11 @@ impl State {
     ) -> Result<(), AllocError>
         requires { flash_count self.old.flashes < max_flashes }
         ensures state_of { (action : TheAction) (i j : Option ℤ) → state_of self.new ≡ after (command.Operate action x y i j) (state_of self.old) }
+        ensures macros { self.new.macros ≡ self.old.macros }
+        ensures apertures { self.new.apertures ≡ self.old.apertures }
         ensures flashes { OnOk result (Adds self.old.flashes (flash.now ∷ []) self.new.flashes) }
     {
-        self.set_point(x, y);
+        self.current.set_point(x, y);
         self.flashes.add(flash)
-    }
-
-    /// Makes the point of an operation the current one.
-    pub(crate) fn set_point(&mut self, x: Option<i64>, y: Option<i64>)
-        ensures state_of { (action : TheAction) (i j : Option ℤ) → state_of self.new ≡ after (command.Operate action x y i j) (state_of self.old) }
-        ensures flashes { self.new.flashes ≡ self.old.flashes }
-    {
-        self.x = x.unwrap_or(self.x);
-        self.y = y.unwrap_or(self.y);
-    }
-}
-
-/// No repetition: one column and one row.
-pub fn no_repeat() -> StepRepeat
-    ensures { result ≡ no_repeat }
-{
-    let zero = Dec::from_units(0).unwrap();
-    StepRepeat {
-        columns: 1,
-        rows: 1,
-        step_x: zero,
-        step_y: zero,
     }
 }

@@ -1,78 +1,111 @@
 //! Tables of what a file defines. They are ordered, so no choice of numbers or names makes them slow.
 
-ghost use Rattle.std.specs.Prelude.{◌≡◌, ◌||◌, ◌==◌, ℕ, List, None, Some, nat_eq, OnOk, if◌then◌else◌, false};
-ghost use Rattle.std.specs.Option.{option_or};
+ghost use Rattle.std.specs.Prelude.{◌≡◌, ◌==◌, ℕ, List, None, Some, nat_eq, OnOk, IfOk, if◌then◌else◌};
+ghost use Rattle.std.specs.Option.{option_copied, option_or};
 ghost use Rattle.std.specs.Cmp.Lexicographic.{pointwise};
 
 use crate::aperture::Aperture;
+use gerber_text::Pieces;
 use grid_units::Text;
+use pad_shapes::SharedRounded;
 use std::alloc::{AllocError, Global};
-use std::collections::{BTreeMap, BTreeSet};
+use std::collections::BTreeMap;
+
+/// An aperture, and the shape of its macro, where shapes are asked for and it has one.
+#[derive(Drop)]
+pub struct Defined {
+    pub aperture: Aperture,
+    pub shape: Option<SharedRounded>,
+}
 
 /// The apertures by their numbers.
 #[derive(Drop)]
-pub(crate) struct Apertures {
-    table: BTreeMap<u32, Aperture>,
+pub struct Apertures {
+    table: BTreeMap<u32, Defined>,
 }
 
 impl Apertures {
-    ghost use Rattle.layer_state.specs.Tables.{aperture_at};
+    ghost use Rattle.layer_state.specs.Tables.{defined_at};
 
     /// No apertures.
     pub(crate) fn new(alloc: Global) -> Self
-        ensures { (number : ℕ) → aperture_at result number ≡ None }
+        ensures { (number : ℕ) → defined_at result number ≡ None }
     {
         Apertures {
             table: BTreeMap::new(alloc),
         }
     }
 
-    /// The aperture of a number, if it has one.
-    pub(crate) fn get(&self, number: u32) -> Option<Aperture>
-        ensures { result ≡ aperture_at self.now number }
+    /// The aperture of a number, if it has one, with its shape.
+    pub fn get(&self, number: u32) -> Option<&Defined>
+        ensures { option_copied result ≡ defined_at self.now number }
     {
-        self.table.get(&number).copied()
+        self.table.get(&number)
     }
 
     /// Gives a number its aperture.
-    pub(crate) fn insert(&mut self, number: u32, aperture: Aperture) -> Result<(), AllocError>
-        ensures { OnOk result ((other : ℕ) → aperture_at self.new other ≡ option_or (if other == number then Some aperture else None) (aperture_at self.old other)) }
+    pub(crate) fn insert(&mut self, number: u32, defined: Defined) -> Result<(), AllocError>
+        ensures { OnOk result ((other : ℕ) → defined_at self.new other ≡ option_or (if other == number then Some defined else None) (defined_at self.old other)) }
     {
-        self.table.insert(number, aperture)?;
+        self.table.insert(number, defined)?;
         Ok(())
     }
 }
 
-/// A set of names, such as those of macros.
+/// The macros by their names. The pieces of one are kept where shapes are asked for.
 #[derive(Drop)]
-pub(crate) struct Names {
-    table: BTreeSet<Vec<u8>>,
+pub(crate) struct Macros {
+    table: BTreeMap<Vec<u8>, Option<Pieces>>,
 }
 
-impl Names {
-    ghost use Rattle.layer_state.specs.Tables.{has_name};
+impl Macros {
+    ghost use Rattle.layer_state.specs.Tables.{has_name, macro_at, pieces_at};
 
-    /// No names.
+    /// No macros.
     pub(crate) fn new(alloc: Global) -> Self
-        ensures { (name : List ℕ) → has_name result name ≡ false }
+        ensures { (name : List ℕ) → macro_at result name ≡ None }
     {
-        Names {
-            table: BTreeSet::new(alloc),
+        Macros {
+            table: BTreeMap::new(alloc),
         }
     }
 
-    /// Whether the set has a name.
+    /// Whether a macro has this name.
     pub(crate) fn has(&self, name: &Text) -> bool
         ensures { result ≡ has_name self.now name.now }
     {
-        self.table.contains(name.bytes())
+        self.table.contains_key(name.bytes())
     }
 
-    /// Adds a copy of a name to the set.
-    pub(crate) fn insert(&mut self, alloc: Global, name: &Text) -> Result<(), AllocError>
-        ensures { OnOk result ((other : List ℕ) → has_name self.new other ≡ (pointwise nat_eq name.now other || has_name self.old other)) }
+    /// The pieces that are kept of the macro of a name.
+    pub(crate) fn get(&self, name: &Text) -> Option<&Pieces>
+        ensures { option_copied result ≡ pieces_at self.now name.now }
     {
-        self.table.insert(Vec::from_slice(alloc, name.bytes())?)?;
+        self.table.get(name.bytes())?.as_ref()
+    }
+
+    /// Gives a name its macro, of which these pieces are kept.
+    pub(crate) fn insert(
+        &mut self,
+        alloc: Global,
+        name: &Text,
+        pieces: Option<Pieces>,
+    ) -> Result<(), AllocError>
+        ensures { OnOk result ((other : List ℕ) → macro_at self.new other ≡ option_or (if pointwise nat_eq name.now other then Some pieces else None) (macro_at self.old other)) }
+    {
+        self.table
+            .insert(Vec::from_slice(alloc, name.bytes())?, pieces)?;
         Ok(())
     }
+}
+
+/// A copy of the pieces of a macro.
+pub(crate) fn copy_of(alloc: Global, texts: &[Text]) -> Result<Pieces, AllocError>
+    ensures { IfOk result (λ pieces. pieces ≡ texts.now) }
+{
+    let mut copies = Vec::new(alloc);
+    for text in texts {
+        copies.push(text.copy()?)?;
+    }
+    Ok(Pieces::new(copies))
 }

@@ -1,6 +1,7 @@
 -- The border of a polygon: no circle at a corner and no vector line along an edge is smaller.
 use Rattle.macro_shapes.proofs.Common.{◌≡◌, ℕ, suc, ℤ, pos, ◌*◌, ◌/◌, ◌≤◌, ◌<◌, ◌≤ℤ◌, ◌+ℤ◌, ◌-ℤ◌, ◌*ℤ◌, unsigned_abs, max, min, true, List, [], ◌∷◌, Option, None, Some, refl, sym, ap, subst, ◌∙◌, ◌⊎◌, inl, inr, arith, le_trans, ◌&&◌, ◌||◌, nat_le, int_lt, All, Contains, fold, int_eq, and_parts, or_cases, leb-true, Decides-int_eq, ints, All-nil, All-cons, mul-le, same_Some, cond_some, GridPoint, square, square_distance, square-le, square_distance_comm, GridRounded, Edge, edges, corners, cross, along, square_edge, is_beside, is_z, is_n, is_add, is_sub, is_mul, same, length_is, edge, IsInPrimitive, IsInLine, is_same, diameter_at, width_along, disc_at, line_along, greatest, least, discs_in_turn, Primitive}
 use Rattle.macro_shapes.proofs.BordersInTurn.{disc_is, line_is}
+use Rattle.pad_shapes.proofs.PartsLemmas.{along_back_z}
 use Rattle.macro_shapes.specs.declared.primitive.Primitive.TheVariants as primitive
 
 -- ---- sizes
@@ -116,17 +117,6 @@ in_line e p size w less h =
         let t : (2 * (size / 2)) * (2 * (size / 2)) ≤ w * w = square-le (2 * (size / 2)) w (half-le size w less) in
         let u : ((2 * (size / 2)) * (2 * (size / 2))) * s ≤ (w * w) * s = mul-le ((2 * (size / 2)) * (2 * (size / 2))) s (w * w) s t (omega arith) in
         times_four (size / 2) c s u near
-
-along_back_z : (ax ay bx by x y : ℤ)
-    → ((bx -ℤ ax) *ℤ (x -ℤ ax) +ℤ (by -ℤ ay) *ℤ (y -ℤ ay)) +ℤ ((ax -ℤ bx) *ℤ (x -ℤ bx) +ℤ (ay -ℤ by) *ℤ (y -ℤ by))
-    ≡ (bx -ℤ ax) *ℤ (bx -ℤ ax) +ℤ (by -ℤ ay) *ℤ (by -ℤ ay)
-along_back_z ax ay bx by x y =
-    same
-    (is_add
-    (is_add (is_mul (is_sub (is_z bx) (is_z ax)) (is_sub (is_z x) (is_z ax))) (is_mul (is_sub (is_z by) (is_z ay)) (is_sub (is_z y) (is_z ay))))
-    (is_add (is_mul (is_sub (is_z ax) (is_z bx)) (is_sub (is_z x) (is_z bx))) (is_mul (is_sub (is_z ay) (is_z by)) (is_sub (is_z y) (is_z by)))))
-    (is_add (is_mul (is_sub (is_z bx) (is_z ax)) (is_sub (is_z bx) (is_z ax))) (is_mul (is_sub (is_z by) (is_z ay)) (is_sub (is_z by) (is_z ay))))
-    (omega arith)
 
 cross_back_z : (ax ay bx by x y : ℤ) → ((bx -ℤ ax) *ℤ (y -ℤ ay) -ℤ (by -ℤ ay) *ℤ (x -ℤ ax)) +ℤ ((ax -ℤ bx) *ℤ (y -ℤ by) -ℤ (ay -ℤ by) *ℤ (x -ℤ bx)) ≡ pos 0
 cross_back_z ax ay bx by x y =

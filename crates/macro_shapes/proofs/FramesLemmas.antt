@@ -4,8 +4,5 @@ use Rattle.macro_shapes.proofs.Common.{◌≡◌, ℕ, ◌+◌, ◌<◌, ◌≤�
 pub pushed : {X : Type 0} (xs : List X) (n : ℕ) (x : X) → n < length xs → reverse (take (n + 1) (set xs n x)) ≡ x ∷ reverse (take n xs)
 pushed xs n x h = ap reverse (take_more_set xs n x h) ∙ reverse-append (take n xs) (x ∷ [])
 
-pub popped : {X : Type 0} (xs : List X) (n m : ℕ) (d : X) → n ≡ m + 1 → m < length xs → reverse (take n xs) ≡ get_or xs m d ∷ reverse (take m xs)
-popped xs n m d e h = ap (λ k. reverse (take k xs)) e ∙ (ap reverse (take_more xs m d h) ∙ reverse-append (take m xs) (get_or xs m d ∷ []))
-
 pub depth_is : {X : Type 0} (xs : List X) (n : ℕ) → n ≤ length xs → n ≡ length (reverse (take n xs))
 depth_is xs n h = sym (length-reverse (take n xs) ∙ length-take-le n xs h)

@@ -9,7 +9,7 @@ ghost use Rattle.macro_shapes.specs.Inner.Bytes.{goes_on, number_and_text, start
 use grid_units::numbers::{capped_value, digit_run_len, is_digits, is_number_char};
 
 /// The code of a primitive that is judged (Gerber format, Aperture macro AM).
-#[derive(Clone, Copy, PartialEq, Eq)]
+#[derive(Clone, Copy)]
 pub enum Code {
     /// 1: a circle.
     Circle,

@@ -4,21 +4,21 @@ ghost use Rattle.std.specs.Prelude.{◌≡◌};
 ghost use Rattle.macro_shapes.specs.Signs.{sign_of};
 
 /// The sign of a sum.
-#[derive(Clone, Copy, PartialEq, Eq)]
+#[derive(Clone, Copy)]
 pub enum Addition {
     Plus,
     Minus,
 }
 
 /// The sign of a product.
-#[derive(Clone, Copy, PartialEq, Eq)]
+#[derive(Clone, Copy)]
 pub enum Multiplication {
     Times,
     Over,
 }
 
 /// A sign of an expression: a bracket, or what stands between two operands.
-#[derive(Clone, Copy, PartialEq, Eq)]
+#[derive(Clone, Copy)]
 pub enum Sign {
     Open,
     Close,

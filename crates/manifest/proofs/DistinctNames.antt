@@ -1,7 +1,7 @@
 -- Each name is proposed once.
 use Rattle.manifest.proofs.Common.{◌≡◌, ◌∙◌, ◌≤◌, ◌++◌, ◌||◌, ◌&&◌, ℕ, Bool, true, false, cond, List, [], ◌∷◌, map, Some, None, arith, refl, sym, ap, nat_lt, if◌then◌else◌, list_any, count_by, filter, filter_map, cons_option, IsPermutation, bytes_eq, false≢true, list_any-append, sum_by-IsPermutation, bytes_eq-Decides, with_prefixes_from, Profile, InputFile, Proposal, is_copper, is_listed, layers_of_role, rank, count_ranked, has_known_place, place_checked, placed_proposals, separate_proposals, is_named, name_of, distinct, proposal, proposals, unless_seen, are_clear, is_stack, layers_checked, Undecided}
 use Rattle.manifest.specs.declared.model.ProposalReason.TheVariants as because
-use Rattle.manifest.proofs.CountLemmas.{count_filter, count_hit, count_miss, count_of_map}
+use Rattle.manifest.proofs.CountLemmas.{count_filter, count_hit, count_miss, count_of_map, or_first}
 use Rattle.manifest.proofs.LabelLemmas.{IsOnce, has_name}
 
 -- the files after these, each name once
@@ -11,17 +11,13 @@ after first files = filter_map unless_seen (with_prefixes_from first files)
 abbrev asks : List ℕ → InputFile → Bool
 asks name file = bytes_eq (name_of file) name
 
-front : (a b : Bool) → a ≡ true → (a || b) ≡ true
-front true b e = refl
-front false b e = absurd (false≢true e)
-
 last : (a b : Bool) → b ≡ true → (a || (b || false)) ≡ true
 last true b e = refl
 last false true e = refl
 last false false e = e
 
 still : (name : List ℕ) (first : List InputFile) (file : InputFile) → is_named name first ≡ true → is_named name (first ++ file ∷ []) ≡ true
-still name first file h = list_any-append (asks name) first (file ∷ []) ∙ front (list_any (asks name) first) (list_any (asks name) (file ∷ [])) h
+still name first file h = list_any-append (asks name) first (file ∷ []) ∙ or_first (list_any (asks name) first) (list_any (asks name) (file ∷ [])) h
 
 joined : (name : List ℕ) (first : List InputFile) (file : InputFile) → asks name file ≡ true → is_named name (first ++ file ∷ []) ≡ true
 joined name first file h = list_any-append (asks name) first (file ∷ []) ∙ last (list_any (asks name) first) (asks name file) h

@@ -1,7 +1,7 @@
 -- The names of a manifest differ where those of the files do, and may stand in it where those may.
 use Rattle.manifest.proofs.Common.{◌≡◌, ◌∙◌, ◌<◌, ◌≤◌, ◌||◌, ◌==◌, ℕ, Bool, true, false, not, List, ◌∷◌, ◌++◌, length, arith, refl, sym, ap, subst, nat_lt, if◌then◌else◌, list_any, count_by, bytes_eq, is_utf8, false≢true, lt-ltb, bytes_eq-Decides, base_name, is_control, is_plain_text, Proposal, is_ambiguous, label, count_named, is_valid_name, and_true, both_true}
 use Rattle.manifest.proofs.PlainNameLemmas.{base_name_is_text, base_name_keeps, base_name_of_base_name}
-use Rattle.manifest.proofs.CountLemmas.{count_two, found}
+use Rattle.manifest.proofs.CountLemmas.{count_two, found, or_second}
 
 -- the file has this name
 abbrev pub has_name : List ℕ → Proposal → Bool
@@ -17,17 +17,13 @@ same a b e = (bytes_eq-Decides a b).0 e
 equal : (a b : List ℕ) → a ≡ b → bytes_eq a b ≡ true
 equal a b e = (bytes_eq-Decides a b).1 e
 
-second : (a b : Bool) → b ≡ true → (a || b) ≡ true
-second true b e = refl
-second false b e = e
-
 module _ (entries before : List Proposal) (p : Proposal) (after : List Proposal) (split : entries ≡ before ++ p ∷ after) (distinct : IsOnce entries) where
   two : (t : Proposal → Bool) → list_any t before ≡ true → t p ≡ true → 1 < count_by t entries
   two t h k = subst (λ (es : List Proposal). 1 < count_by t es) (sym split) (count_two t before p after h k)
 
   -- what two files have after the last slash is ambiguous
   twice : (name : List ℕ) → list_any (λ q. bytes_eq (base_name q.file) name) before ≡ true → bytes_eq (base_name p.file) name ≡ true → is_ambiguous entries name ≡ true
-  twice name h k = second (length name == 0) (nat_lt 1 (count_named entries name)) (lt-ltb 1 (count_named entries name) (two (λ q. bytes_eq (base_name q.file) name) h k))
+  twice name h k = or_second (length name == 0) (nat_lt 1 (count_named entries name)) (lt-ltb 1 (count_named entries name) (two (λ q. bytes_eq (base_name q.file) name) h k))
 
   clash : (q : Proposal) → ((t : Proposal → Bool) → t q ≡ true → list_any t before ≡ true) → (a b : Bool) → is_ambiguous entries (base_name q.file) ≡ a → is_ambiguous entries (base_name p.file) ≡ b
       → (if a then q.file else base_name q.file) ≡ (if b then p.file else base_name p.file) → ⊥

@@ -1,5 +1,5 @@
 -- The manifest of proposals that are all decided reads back as their files.
-use Rattle.manifest.proofs.Common.{◌≡◌, ◌∙◌, ◌≤◌, ◌++◌, ◌&&◌, ℕ, Bool, true, false, not, List, [], ◌∷◌, length, map, codes, Option, Some, None, Ok, arith, refl, sym, ap, append_assoc, nat_lt, nat_le, if◌then◌else◌, list_all, list_any, count_by, filter_map, position, option_or, bytes_eq, leb-true, nat_tests, map-append, default_config, records, strip_bom, default_writer, read_back, row_text, violation_at, violations, with_prefixes_from, Reason, BadSpan, Profile, Entry, CsvRecord, broken_after, first_broken_rule, exceeds_layers, entries_of, entry_of, field, is_repeated, manifest_in, parse_manifest_records, missing_role, joint_fault, LayerRange, ProposedRole, Copper, Plated, Unplated, Mixed, Undecided, LeftOut, Proposal, has_spans, is_copper, is_copper_role, label, manifest_text, layers_of_role, AreDecided, as_span, entry_in, is_decided, is_valid_name, role_of, are_within_count, both_true}
+use Rattle.manifest.proofs.Common.{◌≡◌, ◌∙◌, ◌≤◌, ◌++◌, ◌&&◌, ℕ, Bool, true, false, not, List, [], ◌∷◌, length, map, codes, Option, Some, None, Ok, arith, refl, sym, ap, append_assoc, nat_lt, nat_le, if◌then◌else◌, list_all, list_any, count_by, filter_map, position, option_or, bytes_eq, leb-true, nat_tests, map-append, default_config, records, strip_bom, default_writer, read_back, row_text, violation_at, violations, with_prefixes_from, Reason, BadSpan, Profile, Entry, CsvRecord, broken_after, first_broken_rule, exceeds_layers, entries_of, entry_of, is_repeated, manifest_in, parse_manifest_records, missing_role, joint_fault, LayerRange, ProposedRole, Copper, Plated, Unplated, Mixed, Undecided, LeftOut, Proposal, has_spans, is_copper, is_copper_role, label, manifest_text, layers_of_role, AreDecided, as_span, entry_in, is_decided, is_valid_name, role_of, are_within_count, both_true}
 use Rattle.std.proofs.Common.{option_map}
 use Rattle.manifest.specs.Manifest as manifests
 use Rattle.manifest.proofs.EntryLoop.{at_end}

@@ -1,5 +1,5 @@
 -- A manifest of the strict profile names the same files in the wide one.
-use Rattle.manifest.proofs.Common.{◌≡◌, ◌∙◌, ◌++◌, ◌||◌, ◌&&◌, ◌==◌, ℕ, Bool, true, false, List, [], ◌∷◌, Option, Some, None, Result, Ok, length, map, slice_get, not, refl, ap, sym, if◌then◌else◌, is_some, cons_option, filter_map, option_map, option_or, violation_at, violations, with_prefixes_from, Strict, Wide, Reason, BadManifest, BadRole, BadSpan, EmptyName, RepeatedName, Entry, CsvRecord, broken_after, csv_records, entries_or_fault, entry_of, field, field_count, first_broken_rule, first_fault, is_bad_span, is_repeated, is_wide_alone, is_well_formed, joint_fault, manifest, manifest_in, parse_entries, parse_manifest_records, role_of_word}
+use Rattle.manifest.proofs.Common.{◌≡◌, ◌∙◌, ◌++◌, ◌||◌, ◌&&◌, ◌==◌, ℕ, Bool, true, false, List, [], ◌∷◌, Option, Some, None, Ok, length, map, slice_get, not, refl, ap, sym, if◌then◌else◌, is_some, cons_option, filter_map, option_map, option_or, violation_at, violations, with_prefixes_from, Strict, Wide, Reason, BadManifest, BadRole, BadSpan, EmptyName, RepeatedName, Entry, CsvRecord, broken_after, csv_records, entries_or_fault, entry_of, field, field_count, first_broken_rule, first_fault, is_bad_span, is_repeated, is_wide_alone, is_well_formed, joint_fault, manifest, manifest_in, parse_entries, parse_manifest_records, role_of_word}
 
 -- a record that breaks no rule of the strict profile breaks none of the wide one
 no_rule : (width : ℕ) (repeated : Bool) (row : CsvRecord) → first_broken_rule Strict width repeated row ≡ None → first_broken_rule Wide width repeated row ≡ None

@@ -8,7 +8,7 @@ ghost use Rattle.manifest.specs.Contents.{ends_function, is_comma, lines};
 use memchr::memmem;
 
 /// What kind of file a text is.
-#[derive(Clone, Copy, Debug, PartialEq, Eq)]
+#[derive(Clone, Copy, PartialEq, Eq)]
 pub enum FileKind {
     /// A Gerber file.
     Gerber,
@@ -142,7 +142,7 @@ fn split_at_comma(text: &[u8]) -> (&[u8], &[u8])
 }
 
 /// The first four fields of a file function, empty where there are fewer.
-#[derive(Clone, Copy, Debug)]
+#[derive(Clone, Copy)]
 pub struct FunctionFields<'a> {
     pub first: &'a [u8],
     pub second: &'a [u8],

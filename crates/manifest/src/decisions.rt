@@ -152,14 +152,6 @@ fn stack_position(place: &[u8]) -> StackPosition
     }
 }
 
-fn is_drill_function(first: &[u8]) -> bool
-    ensures { result ≡ says.is_drill_function first.now }
-{
-    first == b"Plated".as_slice()
-        || first == b"NonPlated".as_slice()
-        || first == b"MixedPlating".as_slice()
-}
-
 /// What a Gerber file's function says.
 fn gerber_by_function(alloc: Global, function: &[u8]) -> Result<Decision, AllocError>
     ensures { IfOk result (λ decision. decision ≡ says.gerber_by_function function.now) }
@@ -172,7 +164,10 @@ fn gerber_by_function(alloc: Global, function: &[u8]) -> Result<Decision, AllocE
             by_function(alloc, fields.first)?,
         ));
     }
-    if is_drill_function(fields.first) {
+    let is_drill = fields.first == b"Plated".as_slice()
+        || fields.first == b"NonPlated".as_slice()
+        || fields.first == b"MixedPlating".as_slice();
+    if is_drill {
         return Ok((ProposedRole::Undecided, ProposalReason::DrillInGerber));
     }
     Ok((ProposedRole::LeftOut, by_function(alloc, fields.first)?))
@@ -332,22 +327,15 @@ fn gerber_by_name(alloc: Global, name: &[u8]) -> Result<Decision, AllocError>
     Ok(gerber_by_words(end, words.as_slice()))
 }
 
-/// What a Gerber file is: by its function, else by its name.
-fn gerber_decision(alloc: Global, name: &[u8], text: &[u8]) -> Result<Decision, AllocError>
-    ensures { IfOk result (λ decision. decision ≡ says.gerber_decision name.now text.now) }
-{
-    match function_of(text) {
-        Some(function) => gerber_by_function(alloc, function),
-        None => gerber_by_name(alloc, name),
-    }
-}
-
-/// What a file with this name and text is, and why.
+/// What a file with this name and text is, and why. A Gerber file is what its function says, else what its name says.
 pub(crate) fn decision(alloc: Global, name: &[u8], text: &[u8]) -> Result<Decision, AllocError>
     ensures { IfOk result (λ decision. decision ≡ says.decision name.now text.now) }
 {
     match kind_of(text) {
-        FileKind::Gerber => gerber_decision(alloc, name, text),
+        FileKind::Gerber => match function_of(text) {
+            Some(function) => gerber_by_function(alloc, function),
+            None => gerber_by_name(alloc, name),
+        },
         FileKind::Drill => drill_decision(alloc, name, text),
         FileKind::Empty => Ok((ProposedRole::LeftOut, ProposalReason::NoHoles)),
         FileKind::Archive => Ok((ProposedRole::LeftOut, ProposalReason::Archive)),

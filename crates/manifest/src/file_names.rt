@@ -1,7 +1,6 @@
 //! What the name of a file says.
 
-ghost use Rattle.std.specs.Prelude.{◌≡◌, ◌≤◌, IfOk, codes, map};
-ghost use Rattle.std.specs.Str.{bytes_eq};
+ghost use Rattle.std.specs.Prelude.{◌≡◌, ◌≤◌, IfOk, map};
 ghost use Rattle.std.specs.List.{list_any};
 ghost use Rattle.grid_units.specs.Numbers as numbers;
 ghost use Rattle.manifest.specs.Names as says;
@@ -172,13 +171,6 @@ pub fn says_unplated(words: &[&[u8]]) -> bool
     has_unplated_word(words) || has_non_plated(words)
 }
 
-/// Whether a word is `non`.
-fn is_non(word: &[u8]) -> bool
-    ensures { result ≡ bytes_eq word.now (codes "non") }
-{
-    word == b"non".as_slice()
-}
-
 /// Whether a word says that holes are plated; `after_non` says whether `non` stands right before it.
 fn is_plated_word(after_non: bool, word: &[u8]) -> bool
     ensures { result ≡ says.is_plated_word after_non word.now }
@@ -195,7 +187,7 @@ pub(crate) fn says_plated(words: &[&[u8]]) -> bool
         if is_plated_word(after_non, *word) {
             return true;
         }
-        after_non = is_non(*word);
+        after_non = *word == b"non".as_slice();
     }
     false
 }
@@ -207,40 +199,33 @@ fn has_part(word: &[u8], parts: &[&str]) -> bool
     parts.iter().any(|part| contains(word, part.as_bytes()))
 }
 
-/// Whether a word has a part that stands in the names of layers without copper.
-fn has_other_part(word: &[u8]) -> bool
-    ensures { result ≡ says.has_part word.now says.other_parts }
-{
-    has_part(
-        word,
-        &[
-            "mask",
-            "paste",
-            "silk",
-            "legend",
-            "overlay",
-            "outline",
-            "contour",
-            "courtyard",
-            "crtyd",
-            "adhes",
-            "keepout",
-            "stencil",
-            "stiffen",
-            "mechanic",
-            "dimension",
-            "document",
-            "drawing",
-            "assembl",
-            "placement",
-            "profile",
-            "cream",
-            "milling",
-            "drillmap",
-            "vcut",
-        ],
-    )
-}
+/// The parts of words that stand in the names of layers without copper.
+const OTHER_PARTS: [&str; 24] = [
+    "mask",
+    "paste",
+    "silk",
+    "legend",
+    "overlay",
+    "outline",
+    "contour",
+    "courtyard",
+    "crtyd",
+    "adhes",
+    "keepout",
+    "stencil",
+    "stiffen",
+    "mechanic",
+    "dimension",
+    "document",
+    "drawing",
+    "assembl",
+    "placement",
+    "profile",
+    "cream",
+    "milling",
+    "drillmap",
+    "vcut",
+];
 
 /// The words of layers without copper, with or without a number after them.
 const OTHER_WORDS: [&str; 56] = [
@@ -302,20 +287,13 @@ const OTHER_WORDS: [&str; 56] = [
     "bsp",
 ];
 
-/// Whether a word, up to its first digit, is one of a layer without copper.
-fn has_other_letters(word: &[u8]) -> bool
-    ensures { result ≡ says.is_one_of (says.letters_of word.now) says.other_words }
-{
-    let (letters, _) = split_at_digit(word);
-    is_one_of(letters, &OTHER_WORDS)
-}
-
 /// Whether a word is one of a layer without copper, with or without a number: by a part of it, as `soldermask` by `mask`, or
 /// up to its first digit, as `user1`.
 pub(crate) fn is_other_word(word: &[u8]) -> bool
     ensures { result ≡ says.is_other_word word.now }
 {
-    has_other_part(word) || has_other_letters(word)
+    let (letters, _) = split_at_digit(word);
+    has_part(word, &OTHER_PARTS) || is_one_of(letters, &OTHER_WORDS)
 }
 
 /// Whether a word may be one of a layer without copper, with or without a number: `solder`, `plane2`.

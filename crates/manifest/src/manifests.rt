@@ -10,7 +10,7 @@ use crate::model::{LayerRange, Proposal, ProposedRole};
 use crate::naming::{label, shared_names};
 use crate::order::in_manifest_order;
 use crate::reasons::role_word;
-use crate::table::Table;
+use crate::table::{Table, with_three_fields};
 use itoa::Buffer;
 use std::alloc::{AllocError, Global};
 
@@ -57,18 +57,6 @@ fn has_spans(entries: &[&Proposal]) -> bool
     entries
         .iter()
         .any(|entry| is_partial(layers, layers_of_role(entry.role)))
-}
-
-/// The table with one more row, of three fields.
-fn with_three_fields<'f>(
-    table: Table,
-    role: &'f [u8],
-    name: &'f [u8],
-    file: &'f [u8],
-) -> Result<Table, AllocError>
-    ensures { IfOk result (λ more. more ≡ table ++ row_text default_writer (role.now ∷ name.now ∷ file.now ∷ [])) }
-{
-    table.with_row(&[role, name, file])
 }
 
 /// The table with one more row, of five fields.

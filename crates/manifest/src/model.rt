@@ -4,7 +4,7 @@ use crate::Name;
 use grid_units::Text;
 
 /// What is known of a file's bytes.
-#[derive(Clone, Copy, Debug)]
+#[derive(Clone, Copy)]
 pub enum FileContent<'a> {
     /// All bytes of the file.
     Bytes(&'a [u8]),
@@ -17,7 +17,7 @@ pub enum FileContent<'a> {
 }
 
 /// A file: the name under which it was asked for, and what is known of its bytes.
-#[derive(Clone, Copy, Debug)]
+#[derive(Clone, Copy)]
 pub struct InputFile<'a> {
     pub name: &'a str,
     pub content: FileContent<'a>,
@@ -125,7 +125,7 @@ pub enum ProposalReason {
 }
 
 /// What is proposed for a file, and why.
-#[derive(Debug, Drop)]
+#[derive(Drop)]
 pub struct Proposal {
     /// The name under which the file was asked for.
     pub file: Name,

@@ -2,7 +2,7 @@
 
 ghost use Rattle.std.specs.Prelude.{◌≡◌, IfOk};
 ghost use Rattle.manifest.specs.ProposalList as says;
-ghost use Rattle.manifest.specs.ProposalList.{separate_proposals, name_of, proposals};
+ghost use Rattle.manifest.specs.ProposalList.{separate_proposals, proposals};
 
 use crate::Name;
 use crate::mixed_files::decision_in;
@@ -13,27 +13,16 @@ use grid_units::Profile;
 use std::alloc::{AllocError, Global};
 use std::collections::BTreeSet;
 
-/// What a file is in a profile, and why.
-fn decision_for(
-    alloc: Global,
-    profile: Profile,
-    file: &InputFile<'_>,
-) -> Result<(ProposedRole, ProposalReason), AllocError>
-    ensures { IfOk result (λ decision. decision ≡ says.decision_for profile (name_of file.now) file.now.content) }
-{
-    match file.content {
-        FileContent::Bytes(bytes) => decision_in(alloc, profile, file.name.as_bytes(), bytes),
-        FileContent::NotRead => Ok((ProposedRole::Undecided, ProposalReason::NotRead)),
-        FileContent::Folder => Ok((ProposedRole::LeftOut, ProposalReason::Folder)),
-        FileContent::TooLong => Ok((ProposedRole::Undecided, ProposalReason::TooLong)),
-    }
-}
-
 /// The proposal for a file, taken by itself.
 fn proposal(alloc: Global, profile: Profile, file: &InputFile<'_>) -> Result<Proposal, AllocError>
     ensures { IfOk result (λ proposal. proposal ≡ says.proposal profile file.now) }
 {
-    let (role, because) = decision_for(alloc, profile, file)?;
+    let (role, because) = match file.content {
+        FileContent::Bytes(bytes) => decision_in(alloc, profile, file.name.as_bytes(), bytes)?,
+        FileContent::NotRead => (ProposedRole::Undecided, ProposalReason::NotRead),
+        FileContent::Folder => (ProposedRole::LeftOut, ProposalReason::Folder),
+        FileContent::TooLong => (ProposedRole::Undecided, ProposalReason::TooLong),
+    };
     Ok(Proposal {
         file: Name::new(alloc, file.name)?,
         role,

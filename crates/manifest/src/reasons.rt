@@ -1,11 +1,10 @@
 //! The table of why, `file,role,because`, which `ringcheck manifest --why` prints.
 
-ghost use Rattle.std.specs.Prelude.{◌≡◌, ◌<◌, ◌++◌, ◌∷◌, [], IfOk, OnOk};
-ghost use Rattle.csv.specs.Writing.{default_writer, row_text};
+ghost use Rattle.std.specs.Prelude.{◌≡◌, ◌<◌, ◌++◌, IfOk, OnOk};
 ghost use Rattle.manifest.specs.Manifests as says;
 
 use crate::model::{Proposal, ProposalReason, ProposedRole};
-use crate::table::Table;
+use crate::table::{Table, with_three_fields};
 use std::alloc::{AllocError, Global};
 
 /// The word of a role: `copper`, `plated`, `unplated`, `mixed`, `?`, or `-` for a file that is left out.
@@ -95,25 +94,13 @@ fn because_text(alloc: Global, because: &ProposalReason) -> Result<Vec<u8>, Allo
     Ok(text)
 }
 
-/// The table with one more row, of three fields.
-fn with_fields<'f>(
-    table: Table,
-    file: &'f [u8],
-    role: &'f [u8],
-    because: &'f [u8],
-) -> Result<Table, AllocError>
-    ensures { IfOk result (λ more. more ≡ table ++ row_text default_writer (file.now ∷ role.now ∷ because.now ∷ [])) }
-{
-    table.with_row(&[file, role, because])
-}
-
 /// The table with one more row, that of a file.
 fn with_reason(alloc: Global, table: Table, file: &Proposal) -> Result<Table, AllocError>
     ensures { IfOk result (λ more. more ≡ table ++ says.reason_row file.now) }
 {
     let because = because_text(alloc, &file.because)?;
     let role = role_word(file.role);
-    with_fields(
+    with_three_fields(
         table,
         file.file.as_str().as_bytes(),
         role.as_bytes(),
@@ -125,7 +112,7 @@ fn with_reason(alloc: Global, table: Table, file: &Proposal) -> Result<Table, Al
 fn heading(alloc: Global) -> Result<Table, AllocError>
     ensures { IfOk result (λ table. table ≡ says.reasons_heading) }
 {
-    with_fields(Table::new(alloc)?, b"file", b"role", b"because")
+    with_three_fields(Table::new(alloc)?, b"file", b"role", b"because")
 }
 
 /// The table of why: a first row `file,role,because`, and a row for each file in the order of the proposals, as `csv` writes

@@ -10,26 +10,20 @@ use crate::manifests::{is_copper, layers_of_role};
 use crate::model::{HoleKind, LayerRange, Proposal, ProposalReason, ProposedRole, StackPosition};
 use std::alloc::{AllocError, Global};
 
-/// Whether a file that is undecided for this reason may be a copper layer.
-fn may_be_copper(because: &ProposalReason) -> bool
-    ensures { result ≡ says.may_be_copper because.now }
+/// Whether a file is a sign that so many copper files are not all: it may be a copper layer, or it names a layer beyond them.
+fn hints_at_missing(count: usize, file: &Proposal) -> bool
+    ensures { result ≡ says.hints_at_missing count file.now }
 {
-    matches!(
-        because,
+    let may_be_copper = matches!(
+        file.because,
         ProposalReason::Plane
             | ProposalReason::NothingSays
             | ProposalReason::ConflictingName
             | ProposalReason::RepeatedLayer
             | ProposalReason::NotRead
             | ProposalReason::TooLong
-    )
-}
-
-/// Whether a file is a sign that so many copper files are not all.
-fn hints_at_missing(count: usize, file: &Proposal) -> bool
-    ensures { result ≡ says.hints_at_missing count file.now }
-{
-    may_be_copper(&file.because)
+    );
+    may_be_copper
         || match layers_of_role(file.role) {
             Some(layers) => count < layers.last as usize,
             None => false,

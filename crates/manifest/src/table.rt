@@ -1,6 +1,6 @@
 //! Rows of fields, as `csv` writes them.
 
-ghost use Rattle.std.specs.Prelude.{◌≡◌, ◌++◌, [], IfOk, map};
+ghost use Rattle.std.specs.Prelude.{◌≡◌, ◌++◌, ◌∷◌, [], IfOk, map};
 ghost use Rattle.csv.specs.Writing.{default_writer, row_text};
 
 use csv::{Writer, WriterBuilder};
@@ -72,4 +72,16 @@ impl Table {
             Err(_) => Err(AllocError),
         }
     }
+}
+
+/// The table with one more row, of three fields.
+pub(crate) fn with_three_fields<'f>(
+    table: Table,
+    first: &'f [u8],
+    second: &'f [u8],
+    third: &'f [u8],
+) -> Result<Table, AllocError>
+    ensures { IfOk result (λ more. more ≡ table ++ row_text default_writer (first.now ∷ second.now ∷ third.now ∷ [])) }
+{
+    table.with_row(&[first, second, third])
 }

@@ -1,7 +1,6 @@
 //! Which records name files, and by which rule the first wrong one is refused.
 
-ghost use Rattle.std.specs.Prelude.{◌≡◌, ◌≤◌, map, not, true, false, MatchOption, IfErr, IfOk, IfSome, Ok, Err};
-ghost use Rattle.std.specs.List.{count_by, list_any};
+ghost use Rattle.std.specs.Prelude.{◌≡◌, ◌≤◌, map, true, false, MatchOption, IfErr, IfOk, IfSome, Ok, Err};
 ghost use Rattle.csv.specs.Records.{fields_of};
 ghost use Rattle.grid_units.specs.Results.{Answers, with_place};
 ghost use Rattle.manifest.specs.Manifest as naming;
@@ -244,28 +243,14 @@ fn is_copper(entry: &Entry) -> bool
     is_copper_role(entry.role)
 }
 
-/// Whether one of the files is a copper layer.
-fn has_copper(entries: &[Entry]) -> bool
-    ensures { result ≡ list_any naming.is_copper entries.now }
-{
-    entries.iter().any(|entry| is_copper(entry))
-}
-
-/// Whether one of the files is a drill file.
-fn has_drill(entries: &[Entry]) -> bool
-    ensures { result ≡ list_any (λ entry. not (naming.is_copper entry)) entries.now }
-{
-    entries.iter().any(|entry| !is_copper(entry))
-}
-
 /// The role that a package needs and that these files lack.
 fn missing_role(entries: &[Entry]) -> Option<Reason>
     ensures { result ≡ naming.missing_role entries.now }
 {
-    if !has_copper(entries) {
+    if !entries.iter().any(|entry| is_copper(entry)) {
         return Some(Reason::NoCopper);
     }
-    if !has_drill(entries) {
+    if !entries.iter().any(|entry| !is_copper(entry)) {
         return Some(Reason::NoDrill);
     }
     None
@@ -284,13 +269,6 @@ fn joint_fault(entries: &[Entry]) -> Option<(usize, Reason)>
     }
 }
 
-/// How many of the files are copper layers.
-fn layer_count(entries: &[Entry]) -> usize
-    ensures { result ≡ count_by naming.is_copper entries.now }
-{
-    entries.iter().filter(|entry| is_copper(entry)).count()
-}
-
 /// Whether a span ends above the last of so many layers.
 fn exceeds_layers(layer_count: usize, span: Option<Span>) -> bool
     ensures { result ≡ naming.exceeds_layers layer_count span }
@@ -305,7 +283,7 @@ fn exceeds_layers(layer_count: usize, span: Option<Span>) -> bool
 fn first_exceeding(entries: &[Entry]) -> Option<usize>
     ensures { result ≡ naming.first_exceeding entries.now }
 {
-    let layer_count = layer_count(entries);
+    let layer_count = entries.iter().filter(|entry| is_copper(entry)).count();
     entries
         .iter()
         .position(|entry| exceeds_layers(layer_count, entry.span))

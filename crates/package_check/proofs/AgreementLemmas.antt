@@ -1,5 +1,5 @@
 -- The entries of a report and the findings of its check.
-use Rattle.std.proofs.Common.{◌≡◌, ◌+◌, ◌∷◌, ℕ, Bool, true, false, List, [], length, refl, sym, subst, ap, ap₂, ◌∙◌}
+use Rattle.std.proofs.Common.{◌≡◌, ◌+◌, ◌∷◌, ℕ, Bool, true, false, List, [], length, refl, sym, subst, ap, ap₂, ◌∙◌, not}
 use Rattle.std.specs.List.{AllZip, filter}
 use Rattle.std.specs.Prelude.{Result, Ok}
 use Rattle.grid_units.specs.Holes.{GridRules}
@@ -7,10 +7,8 @@ use Rattle.ring_rules.specs.declared.finding.Finding.{Finding}
 use Rattle.package_check.specs.Package.{IsReport}
 use Rattle.board.specs.Boards.{BoardView, board_findings}
 use Rattle.package_check.specs.Boards.{report_of_board}
-use Rattle.board_report.specs.BoardReport.{IsGapEntry, IsRingEntry}
+use Rattle.board_report.specs.BoardReport.{IsGapEntry, IsRingEntry, is_gap}
 use Rattle.package_check.specs.BoardReports.{MatchesGap, MatchesRing, ReportAgreesWithCheck}
-use Rattle.board_report.specs.BoardReport.{is_gap}
-use Rattle.std.proofs.Common.{not}
 use Rattle.std.proofs.lemmas.List.Filters.{length-filter_both}
 use Rattle.std.proofs.lemmas.Slice.Zip.{AllZip-long}
 use Rattle.grid_units.specs.declared.fault.Fault.{Fault}

@@ -9,7 +9,7 @@ use Rattle.package_check.specs.declared.contents.Content.TheVariants as content
 use Rattle.package_check.proofs.Passing.{all_drilled}
 
 -- what passes a test and what does not is all, as the round holes and the slots are all holes
-counted : {X : Type 0} (test : X → Bool) (xs : List X) → count_by test xs + count_by (λ x. not (test x)) xs ≡ length xs
+pub counted : {X : Type 0} (test : X → Bool) (xs : List X) → count_by test xs + count_by (λ x. not (test x)) xs ≡ length xs
 counted test [] = refl
 counted test (x ∷ xs) =
     let passes = sum_by-cons (λ y. cond (test y) 1 0) x xs in

@@ -14,7 +14,7 @@ pub use Rattle.grid_units.specs.declared.fault.Fail.{Fail}
 pub use Rattle.grid_units.specs.declared.fault.Fault.{Fault}
 pub use Rattle.grid_units.specs.declared.profile.Profile.{Profile}
 pub use Rattle.grid_units.specs.declared.profile.Profile.TheVariants.{Strict, Wide}
-pub use Rattle.layer_features.specs.DrawnCopper.{drawn_in, uncleared_drawn}
+pub use Rattle.layer_features.specs.DrawnCopper.{drawn_in, first_parts, uncleared_drawn}
 pub use Rattle.layer_features.specs.Kept.{keeps_drawn, keeps_rows}
 pub use Rattle.layer_features.specs.declared.counts.FeatureCounts.{FeatureCounts}
 pub use Rattle.layer_features.specs.declared.feature.Feature.{Feature}

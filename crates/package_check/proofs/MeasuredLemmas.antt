@@ -1,5 +1,5 @@
 -- A package passes under just the rules that it meets.
-use Rattle.std.proofs.Common.{◌≡◌, ℕ, List, Err, IfOk, refl, sym, ap, ◌∙◌}
+use Rattle.std.proofs.Common.{◌≡◌, ℕ, List, Err, IfOk, refl, sym, ap, ◌∙◌, Result, Ok}
 use Rattle.grid_units.specs.Holes.{GridRules}
 use Rattle.grid_units.specs.declared.profile.Profile.{Profile}
 use Rattle.pad_shapes.specs.WidePads.{wide_pad_covers}
@@ -7,7 +7,6 @@ use Rattle.board.specs.Meets.{GapsPassExactly, RingsPassExactly}
 use Rattle.package_check.specs.Boards.{report_of_board}
 use Rattle.package_check.specs.Package.{IsAnswer, IsReport, FileView}
 use Rattle.package_check.specs.Measures.{AnswersMeasure, MeasuredPasses, PackagePasses, RefusesAlike}
-use Rattle.std.proofs.Common.{Result, Ok}
 use Rattle.grid_units.specs.declared.fault.Fault.{Fault}
 use Rattle.package_check.specs.AlikePackages.{AnswerIsUnique}
 use Rattle.package_check.specs.Reports.{ReportView}

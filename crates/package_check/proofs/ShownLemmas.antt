@@ -1,5 +1,5 @@
 -- What is kept of a copper file to be shown.
-use Rattle.package_check.proofs.Common.{◌≡◌, ◌∙◌, ℕ, Bool, true, false, List, [], Result, Ok, Err, IfOk, OnOk, refl, ap, if◌then◌else◌, Profile, Strict, Wide, without_places, LayerImage, ReadsLayerIn, StrictLayers, counting_profile, drawn_in, uncleared_drawn, keeps_drawn, keeps_rows, Drawn, Feature, Keep, copper_keep}
+use Rattle.package_check.proofs.Common.{◌≡◌, ◌∙◌, ℕ, Bool, true, false, List, [], Result, Ok, Err, IfOk, OnOk, refl, ap, if◌then◌else◌, Profile, Strict, Wide, without_places, LayerImage, ReadsLayerIn, StrictLayers, counting_profile, drawn_in, first_parts, uncleared_drawn, keeps_drawn, keeps_rows, Drawn, Feature, Keep, copper_keep}
 use Rattle.layer_features.specs.Features.{features_of, view_in, wide_features_of}
 use Rattle.layer_features.specs.declared.keep.Keep.TheVariants as keep
 
@@ -9,8 +9,8 @@ viewed law Strict text layer h = (law text layer h).features
 viewed law Wide text layer h = refl
 
 -- and what it draws
-pub drawn_viewed : StrictLayers → (profile : Profile) (text : List ℕ) (layer : LayerImage) → ReadsLayerIn profile text (Ok layer) → uncleared_drawn (without_places layer.commands) ≡ drawn_in profile (without_places layer.commands)
-drawn_viewed law Strict text layer h = (law text layer h).drawn
+pub drawn_viewed : StrictLayers → (profile : Profile) (text : List ℕ) (layer : LayerImage) → ReadsLayerIn profile text (Ok layer) → first_parts (uncleared_drawn (without_places layer.commands)) ≡ drawn_in profile (without_places layer.commands)
+drawn_viewed law Strict text layer h = ap first_parts (law text layer h).drawn
 drawn_viewed law Wide text layer h = refl
 
 -- rows are kept of a copper file where they are kept of a package

@@ -12,6 +12,7 @@ use Rattle.std.proofs.lemmas.List.Folds.{list_any-append}
 use Rattle.package_check.specs.declared.contents.Content.TheVariants as content
 use Rattle.package_check.specs.WiderProfile.{WideAnswersByBoard, is_called_plated, in_wide, layer_rings, wide_rings}
 use Rattle.package_check.proofs.Passing.{all_drilled}
+use Rattle.grid_units.proofs.BoolLemmas.{or_is_false}
 
 same_ok : {A : Type 0} {x y : A} → (let a : Result A Fault = Ok x in let b : Result A Fault = Ok y in a ≡ b) → x ≡ y
 same_ok e = cc
@@ -205,10 +206,6 @@ module _ (layers_too : StrictLayers) (once : ReadingIsUniqueIn) where
 
 -- ---- files that contradict their role
 
-both_false : (a b : Bool) → (a || b) ≡ false → (a ≡ false) × (b ≡ false)
-both_false true b e = absurd cc
-both_false false b e = (refl, e)
-
 not_both : (b : Bool) → b ≡ true → b ≡ false → ⊥
 not_both true e k = absurd cc
 not_both false e k = absurd cc
@@ -233,7 +230,7 @@ module _ (texts : (text : List ℕ) (commands : List DrillCommand) → (drills.R
   all_silent [] cs h none = tt
   all_silent (s ∷ ss) [] h none = absurd h
   all_silent (s ∷ ss) (c ∷ cs) h none =
-      let two = both_false (is_called_plated (sum_of c)) (list_any is_called_plated (map sum_of cs)) none in
+      let two = or_is_false (is_called_plated (sum_of c)) (list_any is_called_plated (map sum_of cs)) none in
       (silent s.role s.name s.span s.bytes s.setting.layers c h.0.1 two.0, all_silent ss cs h.1 two.1)
 
   -- a file that contradicts its role, and whose holes no comment calls plated

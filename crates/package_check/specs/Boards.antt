@@ -59,7 +59,7 @@ pub record IsFlashedBoard (sources : List FileView) (board : BoardView) : Type 0
   pub macros : AreFileLists (OfCopper HasMacros) sources board.macros
   pub contours : AreFileLists (OfCopper HasContours) sources board.contours
 
--- a copper file draws what the commands of the layer draw that its text reads as; of a drill file nothing is said (docs/FORMATS.md, Pictures)
+-- a copper file draws the first parts of what the layer draws that its text reads as; of a drill file nothing is said (docs/FORMATS.md, Pictures)
 abbrev pub AreDrawnOf : FileView → List Drawn → Type 0
 AreDrawnOf source drawn = is_copper source.role ≡ true → (image : LayerImage) → ReadsLayerIn source.setting.profile source.bytes (Ok image) → drawn ≡ drawn_in source.setting.profile (without_places image.commands)
 

@@ -67,7 +67,7 @@ HasMacros profile = IsMadeOf (λ commands. uncounted_macros profile (wide_featur
 abbrev pub HasContours : Profile → List ℕ → List WidePad → Type 0
 HasContours profile = IsMadeOf (λ commands. uncounted_contours profile (wide_features_of commands)) profile
 
--- what its commands draw (docs/FORMATS.md, Pictures)
+-- the first parts of what its commands draw (docs/FORMATS.md, Pictures)
 abbrev pub Draws : Profile → List ℕ → List Drawn → Type 0
 Draws profile = IsMadeOf (drawn_in profile) profile
 

@@ -16,16 +16,16 @@ use pad_shapes::WidePad;
 use ring_rules::{Drilled, Span};
 use std::alloc::{AllocError, Global};
 
+fn round(holes: &[Hole]) -> usize
+    ensures { result ≡ count_by is_round holes.now }
+{
+    holes.iter().filter(|hole| hole.is_round()).count()
+}
+
 fn round_drilled(holes: &[Drilled]) -> usize
     ensures { result ≡ count_by (λ one. is_round one.hole) holes.now }
 {
     holes.iter().filter(|one| one.hole.is_round()).count()
-}
-
-fn drilled_slots(holes: &[Drilled]) -> usize
-    ensures { result ≡ count_by (λ one. not (is_round one.hole)) holes.now }
-{
-    holes.iter().filter(|one| !one.hole.is_round()).count()
 }
 
 fn unplated(holes: &[Drilled]) -> usize
@@ -34,6 +34,7 @@ fn unplated(holes: &[Drilled]) -> usize
     holes.iter().filter(|one| !one.plated).count()
 }
 
+#[tactic(auto, using(crate::proofs::BoardsLemmas::counted))]
 pub(crate) fn sum_of(content: &Content) -> FileSum
     ensures { result ≡ sum_of content.now }
 {
@@ -51,13 +52,13 @@ pub(crate) fn sum_of(content: &Content) -> FileSum
             plated: *plated,
             span: *span,
             contradicted: drill.contradicted,
-            round: drill.holes.iter().filter(|hole| hole.is_round()).count(),
-            slots: drill.holes.iter().filter(|hole| !hole.is_round()).count(),
+            round: round(&drill.holes),
+            slots: drill.holes.len() - round(&drill.holes),
         },
         Content::Mixed { span, drill } => FileSum::Mixed {
             span: *span,
             round: round_drilled(&drill.holes),
-            slots: drilled_slots(&drill.holes),
+            slots: drill.holes.len() - round_drilled(&drill.holes),
             unplated: unplated(&drill.holes),
         },
     }
@@ -156,9 +157,9 @@ fn add_slot(
     match slot {
         Some(kept) => {
             let Kept { content, shown } = kept;
+            push(views, shown)?;
             push(files, sum_of(&content))?;
             push_holes(holes, &content)?;
-            push(views, shown)?;
             push_pads(layers, content)
         }
         None => Ok(()),

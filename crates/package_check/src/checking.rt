@@ -1,7 +1,7 @@
 //! The check of a package whose drill files are read before its copper files.
 
 ghost use Rattle.std.specs.Prelude.{◌≡◌, ◌++◌, ◌∷◌, ℕ, List, [], Err, IfOk, Ok, OnErr, OnOk, Option, Result, Some, alloc_error, false, length, map};
-ghost use Rattle.std.specs.List.{concat, sum_by};
+ghost use Rattle.std.specs.List.{concat, flat_map, sum_by};
 ghost use Rattle.grid_units.specs.Holes.{GridRules};
 ghost use Rattle.grid_units.specs.Spans.{LayerSpan};
 ghost use Rattle.grid_units.specs.declared.fault.Fault.{Fault as TheFault};
@@ -96,26 +96,21 @@ impl PackageReader {
         ensures stands { IfOk result (λ check. (keep : TheKeep) (sources : List FileView) → HasTaken self keep sources (is_kind_at false sources) → HasJudged check sources rules (is_kind_at false sources)) }
         ensures layers { IfOk result (λ check. check.layers ≡ (reader_setting self).layers) }
     {
-        let PackageReader {
-            alloc,
-            layers,
-            slots: kept,
-            stopped,
-            ..
-        } = self;
-        let mut drilled = Vec::with_capacity(alloc, hole_total(&kept))?;
-        let mut slots = Vec::with_capacity(alloc, kept.len())?;
-        // Each file's own list of holes is freed once it is appended.
-        for slot in kept {
-            add_drill(alloc, &slot, &mut drilled, &mut slots)?;
+        let mut drilled = Vec::with_capacity(self.alloc, hole_total(&self.slots))?;
+        let mut slots = Vec::with_capacity(self.alloc, self.slots.len())?;
+        for slot in self.slots {
+            let added = add_drill(self.alloc, &slot, &mut drilled, &mut slots);
+            // Each file's own list of holes is freed once it is appended, by a call: the proof need not go through its parts.
+            drop(slot);
+            added?;
         }
-        let holes = IndexedHoles::new(alloc, drilled, rules)?;
+        let holes = IndexedHoles::new(self.alloc, drilled, rules)?;
         Ok(PackageCheck {
-            alloc,
-            layers,
+            alloc: self.alloc,
+            layers: self.layers,
             holes,
             slots,
-            stopped,
+            stopped: self.stopped,
         })
     }
 }
@@ -228,16 +223,13 @@ impl PackageCheck {
         ensures rules { self.new.rules ≡ self.old.rules }
         ensures stopped { self.new.stopped ≡ self.old.stopped }
     {
-        let OpenCopper {
-            index,
-            layer,
-            reading,
-        } = file;
-        let judged = reading.finish(self.alloc, &mut self.holes, layer)?;
-        if has_drill(&self.slots, index) {
+        let judged = file
+            .reading
+            .finish(self.alloc, &mut self.holes, file.layer)?;
+        if has_drill(&self.slots, file.index) {
             return Ok(());
         }
-        put(&mut self.slots, index, judged)?;
+        put(&mut self.slots, file.index, judged)?;
         Ok(())
     }
 
@@ -268,22 +260,22 @@ impl PackageCheck {
     }
 }
 
-/// Moves what is left of the file in a slot to the lists of counts and of findings.
+/// Moves what is left of the files in the slots to the lists of counts and of findings.
 fn add_left(
     files: &mut Vec<FileSum>,
     findings: &mut Vec<Finding>,
-    slot: Option<Judged>,
+    slots: Vec<Option<Judged>>,
 ) -> Result<(), AllocError>
-    ensures files { OnOk result (files.new.items ≡ files.old.items ++ sums_in slot) }
-    ensures findings { OnOk result (findings.new.items ≡ findings.old.items ++ rings_in slot) }
+    ensures files { OnOk result (files.new.items ≡ files.old.items ++ flat_map sums_in slots.items) }
+    ensures findings { OnOk result (findings.new.items ≡ findings.old.items ++ flat_map rings_in slots.items) }
 {
-    match slot {
-        Some(one) => {
+    for slot in slots {
+        if let Some(one) = slot {
             push(files, one.sum)?;
-            findings.extend_from_slice(&one.rings)
+            findings.extend_from_slice(&one.rings)?;
         }
-        None => Ok(()),
     }
+    Ok(())
 }
 
 /// The report on the files in the slots: their counts, the findings of rings layer by layer, and then those of gaps.
@@ -296,15 +288,14 @@ fn report_on_slots(
     requires { sum_by holes_in_slot slots.items ≡ length holes.holes }
     ensures { IfOk result (λ report. report ≡ left_report holes.rules holes.holes slots.items) }
 {
-    let (rules, gaps) = (holes.rules(), holes.gap_findings(alloc)?);
+    let rules = holes.rules();
+    let (holes, gaps) = holes.into_gaps(alloc)?;
     let mut files = Vec::with_capacity(alloc, slots.len())?;
     let mut findings = Vec::new(alloc);
-    for slot in slots {
-        add_left(&mut files, &mut findings, slot)?;
-    }
+    add_left(&mut files, &mut findings, slots)?;
     findings.extend_from_slice(&gaps)?;
     let layers = layer_indexes(alloc, &files)?;
-    report_of(alloc, rules, files, layers, holes.into_holes(), findings)
+    report_of(alloc, rules, files, layers, holes, findings)
 }
 
 /// What is left of a file: its counts, and the findings of rings on its layer.

@@ -91,13 +91,11 @@ impl IndexedHoles {
         ensures holes { self.new.holes ≡ self.old.holes }
         ensures rules { self.new.rules ≡ self.old.rules }
     {
-        match self.search.take() {
-            Some(search) => {
-                let over = search.over(alloc, &self.index, &self.holes, index)?;
-                Ok(Some(over))
-            }
-            None => Ok(None),
-        }
+        let Some(search) = self.search.take() else {
+            return Ok(None);
+        };
+        let over = search.over(alloc, &self.index, &self.holes, index)?;
+        Ok(Some(over))
     }
 
     /// Makes the index anew, as quick as can be for pads of this size. A search that has begun goes on over it.
@@ -284,11 +282,11 @@ impl IndexedHoles {
         ensures holes { self.new.holes ≡ self.old.holes }
         ensures rules { self.new.rules ≡ self.old.rules }
     {
-        self.try_all(alloc, layer, rest.pads(), rest.wide_pads())?;
-        let rings = self.rings(alloc, layer)?;
         if !is_copper_function(rest.file_function()) {
             return Err(refusal(Reason::NotCopper));
         }
+        self.try_all(alloc, layer, rest.pads(), rest.wide_pads())?;
+        let rings = self.rings(alloc, layer)?;
         let counts = rest.counts();
         let sum = FileSum::Layer {
             pads: counts.flashed,
@@ -298,13 +296,6 @@ impl IndexedHoles {
         Ok(Judged { sum, rings })
     }
 
-    /// The findings of gaps between these holes.
-    pub(crate) fn gap_findings(&self, alloc: Global) -> Result<Vec<Finding>, AllocError>
-        ensures { IfOk result (λ gaps. gaps.items ≡ gap_findings self.now.rules.gap self.now.holes) }
-    {
-        self.index.gap_findings(alloc, &self.holes)
-    }
-
     /// The rules by which these holes are judged.
     pub(crate) fn rules(&self) -> Rules
         ensures { result ≡ self.now.rules }
@@ -312,10 +303,12 @@ impl IndexedHoles {
         self.rules
     }
 
-    /// The holes, without their index.
-    pub(crate) fn into_holes(self) -> Vec<Drilled>
-        ensures { result.items ≡ self.holes }
+    /// The holes, without their index, and the findings of gaps between them.
+    pub(crate) fn into_gaps(self, alloc: Global) -> Result<(Vec<Drilled>, Vec<Finding>), AllocError>
+        ensures holes { IfOk result (λ both. both.0.items ≡ self.holes) }
+        ensures gaps { IfOk result (λ both. both.1.items ≡ gap_findings self.rules.gap self.holes) }
     {
-        self.holes
+        let gaps = self.index.gap_findings(alloc, &self.holes)?;
+        Ok((self.holes, gaps))
     }
 }

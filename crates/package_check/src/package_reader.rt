@@ -156,16 +156,16 @@ impl PackageReader {
         ensures keep { self.new.keep ≡ self.old.keep }
         ensures stopped { self.new.stopped ≡ self.old.stopped }
     {
-        let OpenFile {
-            index,
-            span,
-            reading,
-            ..
-        } = file;
         let mut shown = Shown::nothing(self.alloc);
-        let content = reading.finish(self.alloc, self.keep, &mut shown, span)?;
-        put(&mut self.slots, index, Kept { content, shown })?;
-        Ok(())
+        let reading = file.reading;
+        match reading.finish(self.alloc, self.keep, &mut shown, file.span) {
+            Ok(content) => Ok(put(&mut self.slots, file.index, Kept { content, shown })?),
+            Err(fail) => {
+                // A call of `drop`: the proof need not go through the parts.
+                drop(shown);
+                Err(fail)
+            }
+        }
     }
 
     /// The board of the files that were taken, in the order of their indexes: what all of them say together, with the flashes of copper

@@ -7,7 +7,7 @@ ghost use Rattle.std.specs.Option.{option_copied};
 ghost use Rattle.gerber_text.specs.Reading.{Entries};
 ghost use Rattle.gerber_text.specs.Writing.{without_places};
 ghost use Rattle.layer_image.specs.Kept.{IsKeptOf, ReadsKeptIn};
-ghost use Rattle.layer_features.specs.DrawnCopper.{uncleared_drawn};
+ghost use Rattle.layer_features.specs.DrawnCopper.{first_parts, uncleared_drawn};
 ghost use Rattle.layer_features.specs.Features.{features_of, pads_of, rows_of, view_in, wide_features_of};
 ghost use Rattle.layer_features.specs.Kept.{keeps_drawn, keeps_rows};
 ghost use Rattle.layer_features.specs.declared.keep.Keep.{Keep as TheKeep};
@@ -133,7 +133,7 @@ fn rows_view(
 ) -> Result<Layer, AllocError>
     ensures view { (of : TheKeep) (entries : Entries) → IsKeptOf profile of [] entries image → keeps_rows of ≡ true → view_in profile (wide_features_of (without_places entries)) ≡ features_of profile (without_places entries) → IfOk result (λ view. view ≡ layer_view profile (without_places entries)) }
     ensures rows { (of : TheKeep) (entries : Entries) → IsKeptOf profile of [] entries image → keeps_rows of ≡ true → view_in profile (wide_features_of (without_places entries)) ≡ features_of profile (without_places entries) → OnOk result (ShowsRows profile (without_places entries) shown.new) }
-    ensures drawn { (of : TheKeep) (entries : Entries) → IsKeptOf profile of [] entries image → keeps_drawn of ≡ true → OnOk result (shown.new.drawn.items ≡ uncleared_drawn (without_places entries)) }
+    ensures drawn { (of : TheKeep) (entries : Entries) → IsKeptOf profile of [] entries image → keeps_drawn of ≡ true → OnOk result (shown.new.drawn.items ≡ first_parts (uncleared_drawn (without_places entries))) }
 {
     let counts = image.counts();
     let is_copper = is_copper_function(image.file_function());

@@ -175,7 +175,7 @@ ahead_back_z ax ay bx by x y k =
     (is_mul (is_n k) (is_add (is_mul (is_sub (is_z bx) (is_z ax)) (is_sub (is_z bx) (is_z ax))) (is_mul (is_sub (is_z by) (is_z ay)) (is_sub (is_z by) (is_z ay)))))
     (omega arith)
 
-along_back_z : (ax ay bx by x y : ℤ)
+pub along_back_z : (ax ay bx by x y : ℤ)
     → ((bx -ℤ ax) *ℤ (x -ℤ ax) +ℤ (by -ℤ ay) *ℤ (y -ℤ ay)) +ℤ ((ax -ℤ bx) *ℤ (x -ℤ bx) +ℤ (ay -ℤ by) *ℤ (y -ℤ by))
     ≡ (bx -ℤ ax) *ℤ (bx -ℤ ax) +ℤ (by -ℤ ay) *ℤ (by -ℤ ay)
 along_back_z ax ay bx by x y =

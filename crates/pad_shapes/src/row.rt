@@ -21,7 +21,7 @@ pub enum Why {
 }
 
 /// What a flash or a contour is, without its pad.
-#[derive(Clone, Copy, Debug, PartialEq, Eq)]
+#[derive(Clone, Copy)]
 pub enum RowKind {
     /// A flash that is a pad.
     Pad,
@@ -37,7 +37,7 @@ pub enum RowKind {
 
 /// A flash at its point, or a contour at its first corner, without its pad: so it is listed. The pads of a layer are those of its rows that
 /// are pads, in the same order.
-#[derive(Clone, Copy, Debug, PartialEq, Eq)]
+#[derive(Clone, Copy)]
 pub struct FeatureRow {
     pub at: Point,
     pub what: RowKind,

@@ -7,7 +7,7 @@ ghost use Rattle.pad_shapes.specs.Zones.{IsInZone, IsInset};
 use grid_units::{Point, square, square_length};
 
 /// A box along the axes: the least and the greatest coordinates of its points, in pm.
-#[derive(Clone, Copy, PartialEq, Eq)]
+#[derive(Clone, Copy)]
 pub struct Zone {
     /// The least x.
     pub left: i64,

@@ -46,8 +46,7 @@ first_members result = (codes "format", word (codes "ringcheck")) ∷ (codes "ve
 abbrev pub file_values : Profile → List (List ℕ) → List FileSum → List Json
 file_values profile names files = map (λ file. file_value profile (file.0 + 1) (name_of names file.0) file.1) (enumerate_from 0 files)
 
--- the insufficient rings, each with its number and the reason at its place why it is accepted, if there is one; `layers` are those
--- that they name
+-- the insufficient rings, each with its number and the reason at its place why it is accepted, if there is one; `layers` are those that they name
 abbrev pub ring_values : List LayerHead → List RingLack → List (Option (Bor (List ℕ))) → List Json
 ring_values layers rings accepted = map (λ one. ring_value layers (one.0 + 1) one.1 (acceptance_at accepted one.0)) (enumerate_from 0 rings)
 
@@ -60,8 +59,7 @@ abbrev pub finding_values : BoardReport → List (Option (Bor (List ℕ))) → L
 finding_values report rings gaps =
     ring_values report.layers.items report.rings.items rings ++ gap_values (length report.rings.items) report.gaps.items gaps
 
--- the result of a report, by the number of its findings and of those that are waived: `pass` without findings, `waived` if all are,
--- else `findings`
+-- the result of a report, by the number of its findings and of those that are waived: `pass` without findings, `waived` if all are, else `findings`
 abbrev pub result_word : ℕ → ℕ → List ℕ
 result_word findings waived = if findings == 0 then codes "pass" else if waived == findings then codes "waived" else codes "findings"
 

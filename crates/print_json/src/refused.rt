@@ -17,7 +17,7 @@ use std::fmt;
 use std::fmt::{Display, Formatter};
 
 /// Why there is neither a report nor a measure.
-#[derive(Clone, Copy, PartialEq, Eq)]
+#[derive(Clone, Copy)]
 pub enum InputError<'a> {
     /// The manifest is refused.
     RefusedManifest {

@@ -348,7 +348,8 @@ smallest_words (Some least) = codes ", smallest ring " ++ short_millimetres leas
 -- `top, 0.3: 12 holes below the rule, smallest ring 0.105`
 unfoldable pub group_words : List ℕ → ℤ → ℕ → Option ℤ → List ℕ
 group_words name diameter holes least =
-    name ++ (codes ", " ++ (short_millimetres diameter ++ (codes ": " ++ (decimal holes ++ (holes_words holes ++ (smallest_words least ++ ascii.line_feed ∷ []))))))
+    name ++ (codes ", " ++ (short_millimetres diameter
+    ++ (codes ": " ++ (decimal holes ++ (holes_words holes ++ (smallest_words least ++ ascii.line_feed ∷ []))))))
 
 -- the line of the rings that are like this one, on the layer of this name
 abbrev pub group_line : List ℕ → List RingLack → RingLack → List ℕ
@@ -397,8 +398,7 @@ fewer_words findings fewer =
 abbrev pub fewer_line : ℕ → ℕ → List ℕ
 fewer_line findings fewer = if fewer == 0 then [] else fewer_words findings fewer ++ ascii.line_feed ∷ []
 
--- the last part: the rules that the package meets, the waivers that match no finding, how many findings the wide profile does not have, and the
--- last line
+-- the last part: the rules that the package meets, the waivers that match no finding, how many findings the wide profile does not have, and the last line
 abbrev pub last_lines : BoardReport → ℕ → List (Option (Bor (List ℕ))) → List (Option (Bor (List ℕ))) → List ℕ → List ℕ
 last_lines report fewer rings gaps idle =
     meets_line (count_by (λ lack. has_no_pad lack.cause) report.rings.items) report.meets

@@ -3,9 +3,6 @@ use Rattle.report.proofs.Common.{◌≡◌, ◌↔◌, ℕ, ℤ, ◌+◌, ◌<�
 use Rattle.std.proofs.lemmas.List.Folds.{list_any_at, list_any_none}
 use Rattle.std.proofs.lemmas.List.Sums.{count_by_more_yes, count_by_more_no}
 use Rattle.grid_units.proofs.BoolLemmas.{and_true, both_true, not_true}
-use Rattle.pad_shapes.specs.declared.pad.Pad.TheVariants.{Disc}
-use Rattle.pad_shapes.specs.declared.wide_pad.WidePad.TheVariants.{Plain}
-use Rattle.board.specs.Rows.{has_no_best_pad}
 
 not_false : (a : Bool) → a ≡ false → not a ≡ true
 not_false true e = absurd cc

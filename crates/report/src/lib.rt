@@ -107,7 +107,7 @@ pub enum UnitFactor {
 }
 
 /// The rules that a package meets.
-#[derive(Clone, Copy, PartialEq, Eq)]
+#[derive(Clone, Copy)]
 pub struct Meets {
     /// The rings that all holes have that need one.
     pub ring: Met,
@@ -131,7 +131,7 @@ pub struct Measure {
 }
 
 /// The best pad of a hole, in which it lies deepest, where it is plain, and the hole's ring there.
-#[derive(Clone, Copy, PartialEq, Eq)]
+#[derive(Clone, Copy)]
 pub struct RingInPad {
     /// The number of its flash on the layer, from 1.
     pub flash: usize,
@@ -144,7 +144,7 @@ pub struct RingInPad {
 }
 
 /// The best pad of a hole, where it is a rounded polygon, and the hole's ring there.
-#[derive(Clone, Copy, PartialEq, Eq)]
+#[derive(Clone, Copy)]
 pub struct RingAtEdge {
     /// The number of its flash or contour on the layer, from 1.
     pub flash: usize,
@@ -164,7 +164,7 @@ pub struct FurtherCopper<'a> {
 }
 
 /// Why a hole lacks its ring on a layer: the first cause that applies.
-#[derive(Clone, Copy, PartialEq, Eq)]
+#[derive(Clone, Copy)]
 pub enum RingCause {
     /// The best pad is plain, and too small for the hole and its ring, wherever the hole stands in it.
     TooSmall(RingInPad),
@@ -202,14 +202,14 @@ pub enum RingCause {
 }
 
 /// A hole with its place in a package.
-#[derive(Clone, Copy, PartialEq, Eq)]
+#[derive(Clone, Copy)]
 pub struct PlacedHole {
     pub place: HolePlace,
     pub hole: Hole,
 }
 
 /// A hole that lacks its ring on a layer.
-#[derive(Clone, Copy, PartialEq, Eq)]
+#[derive(Clone, Copy)]
 pub struct RingLack {
     /// The place of the layer among the copper files, from 0.
     pub layer: usize,
@@ -220,7 +220,7 @@ pub struct RingLack {
 }
 
 /// Two holes that lack their gap.
-#[derive(Clone, Copy, PartialEq, Eq)]
+#[derive(Clone, Copy)]
 pub struct GapLack {
     /// The hole that comes first in the package.
     pub first: PlacedHole,
@@ -233,7 +233,7 @@ pub struct GapLack {
 }
 
 /// The head of a layer: its file, and how many holes need a ring there.
-#[derive(Clone, Copy, PartialEq, Eq)]
+#[derive(Clone, Copy)]
 pub struct LayerHead {
     /// The index of the copper file in the package, from 0.
     pub file: usize,

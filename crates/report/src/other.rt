@@ -12,7 +12,7 @@ use std::alloc::{AllocError, Global};
 use std::cmp::Ordering;
 
 /// A row that is no pad.
-#[derive(Clone, Copy, PartialEq, Eq)]
+#[derive(Clone, Copy)]
 pub(crate) struct Other {
     /// Its place on the layer, from 0.
     pub(crate) place: usize,

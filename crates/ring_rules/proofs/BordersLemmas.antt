@@ -1,5 +1,5 @@
 -- Places by borders rise with the coordinates, too.
-use Rattle.ring_rules.proofs.Common.{◌≡◌, ℕ, ℤ, ◌+◌, ◌<◌, ◌≤◌, ◌≤ℤ◌, ◌<ℤ◌, Bool, true, false, cond, List, [], ◌∷◌, length, get_or, refl, sym, ◌∙◌, inl, inr, arith, int_le, int_lt, prefix_len, IsPartitionedBy, IsPartitionPoint, IsSortedByKey, int_cmp, is_lt, ranks_by, sorted_far, ints, cases_lt, steps_to, place_of, Axis}
+use Rattle.ring_rules.proofs.Common.{◌≡◌, ℕ, ℤ, ◌+◌, ◌<◌, ◌≤◌, ◌≤ℤ◌, ◌<ℤ◌, Bool, true, false, cond, List, [], ◌∷◌, length, get_or, refl, sym, ◌∙◌, inl, inr, arith, int_le, int_lt, prefix_len, IsPartitionedBy, IsPartitionPoint, IsSortedByKey, int_cmp, is_lt, ranks_by, sorted_far, ints, cases_lt, steps_above, steps_to, place_of, Axis}
 use Rattle.std.specs.declared.cmp.Ordering.TheVariants.{Less, Equal, Greater}
 use Rattle.std.specs.Cmp.{int_cmp_total}
 use Rattle.std.proofs.lemmas.List.Sums.{prefix_len-le-length, prefix_len_passes, prefix_len_stops}
@@ -25,6 +25,15 @@ up_to-le (b ∷ bs) v w h = by_tests (int_le b v) (int_le b w) refl refl (up_to-
   by_tests true true e f rest = omega (arith, rest)
   by_tests true false e f rest = absurd (let a = at_most b v e in let c = above b w f in omega (arith, ints))
   by_tests false t e f rest = omega arith
+
+-- what the steps of a scale without borders are, and of one with some
+pub steps_without : (bs : List ℤ) (low : ℤ) (shift : ℕ) (v : ℤ) → length bs ≡ 0 → steps_to bs low shift v ≡ steps_above low shift v
+steps_without [] low shift v none = refl
+steps_without (b ∷ bs) low shift v none = absurd (omega arith)
+
+pub steps_with : (bs : List ℤ) (low : ℤ) (shift : ℕ) (v : ℤ) → 0 < length bs → steps_to bs low shift v ≡ borders_up_to bs v
+steps_with [] low shift v some = absurd (omega arith)
+steps_with (b ∷ bs) low shift v some = refl
 
 steps_to-le : (bs : List ℤ) (low : ℤ) (shift : ℕ) (v w : ℤ) → v ≤ℤ w → steps_to bs low shift v ≤ steps_to bs low shift w
 steps_to-le [] low shift v w h = steps-le low shift v w h

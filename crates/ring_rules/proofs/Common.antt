@@ -28,6 +28,7 @@ pub use Rattle.ring_rules.specs.declared.finding.Drilled.{Drilled}
 pub use Rattle.ring_rules.specs.declared.finding.Finding.{Finding}
 pub use Rattle.ring_rules.specs.declared.finding.Finding.TheVariants.{Gap, Oblique, Ring}
 pub use Rattle.ring_rules.specs.declared.regions.Region.{Region}
+pub use Rattle.ring_rules.specs.declared.ring_index.RingIndex.{RingIndex}
 pub use Rattle.ring_rules.specs.declared.spot_list.Entry.{Entry}
 pub use Rattle.ring_rules.specs.declared.spots.Spot.{Spot}
 pub use Rattle.ring_rules.specs.declared.tree.Node.{Node}

@@ -1,5 +1,5 @@
 -- How far from a hole the entry point of one may lie that is not clear of it.
-use Rattle.ring_rules.proofs.Common.{◌∙◌, ap, subst, ◌≡◌, ℕ, ℤ, pos, ◌+◌, ◌<◌, ◌≤◌, inl, inr, ◌+ℤ◌, ◌-ℤ◌, ◌≤ℤ◌, false, arith, int_min, int_max, ints, clamps, to_z-of_z, cases_lt, nat_tests, IsCoordinate, abs_diff, square, GridHole, positive_part, range_distance, square_of_cores, are_clear, AreNearer, AreWithin}
+use Rattle.ring_rules.proofs.Common.{subst, ◌≡◌, ℕ, ℤ, pos, ◌+◌, ◌<◌, ◌≤◌, inl, inr, ◌+ℤ◌, ◌-ℤ◌, ◌≤ℤ◌, false, arith, int_min, int_max, ints, clamps, to_z-of_z, cases_lt, nat_tests, IsCoordinate, abs_diff, square, GridHole, positive_part, range_distance, square_of_cores, are_clear, AreNearer, AreWithin}
 use mir.Syntax.{w64}
 use mir.Val.{to_z, of_z}
 use Rattle.ring_rules.proofs.CoreLemmas.{positive_part_is}
@@ -37,17 +37,9 @@ none_within gap far a b most none near = let x = near.x in omega (arith, ints, x
 pub all_within : (gap far : ℤ) (n : ℕ) (a b : GridHole) → (pos (a.radius + b.radius) +ℤ gap) ≤ℤ far → far ≤ℤ pos n → AreNearer gap a b → AreWithin n a b
 all_within gap far n a b most is near = let x = near.x in let y = near.y in record { x = omega (arith, ints, x, most, is); y = omega (arith, ints, y, most, is) }
 
-passed_is : (z : ℤ) → IsCoordinate z → to_z w64 (of_z w64 z) ≡ z
+-- a coordinate as a call passes it on
+pub passed_is : (z : ℤ) → IsCoordinate z → to_z w64 (of_z w64 z) ≡ z
 passed_is z h = to_z-of_z w64 z (omega (arith, ints))
-
--- the lesser of two coordinates less a number, as the code computes it
-pub passed_less : (least a b c d : ℤ) (margin : ℕ) → margin ≤ 70000000000000 → least ≡ int_min (to_z w64 (of_z w64 a)) (to_z w64 (of_z w64 b)) → IsCoordinate a → IsCoordinate b → a ≡ c → b ≡ d
-    → to_z w64 (of_z w64 (to_z w64 (of_z w64 least) -ℤ to_z w64 margin)) ≡ int_min c d -ℤ pos margin
-passed_less least a b c d margin h e p q at at' =
-    let k : to_z w64 margin ≡ pos margin = omega (arith, ints) in
-    let is : least ≡ int_min a b = e ∙ (λ i. int_min (passed_is a p i) (passed_is b q i)) in
-    let back : to_z w64 (of_z w64 least) ≡ int_min a b = ap (λ z. to_z w64 (of_z w64 z)) is ∙ to_z-of_z w64 (int_min a b) (omega (arith, ints, clamps)) in
-    (λ i. to_z w64 (of_z w64 (back i -ℤ k i))) ∙ (to_z-of_z w64 (int_min a b -ℤ pos margin) (omega (arith, ints, clamps)) ∙ (λ i. int_min (at i) (at' i) -ℤ pos margin))
 
 -- what holds of a gap holds of it as a call passes it on
 pub passed_on : (P : ℤ → Type 0) (z : ℤ) (n : ℕ) → n ≤ 10000000000000 → z ≡ pos n → P (pos n) → P (to_z w64 (of_z w64 z))

@@ -1,6 +1,6 @@
 //! Places along an axis, which map coordinates to the columns or rows of a grid.
 
-ghost use Rattle.std.specs.Prelude.{◌≡◌, ℤ, true, false, pos, ◌+◌, ◌*◌, ◌/◌, ◌^◌, ◌<◌, ◌≤◌, ◌≤ℤ◌, ◌+ℤ◌, unsigned_abs};
+ghost use Rattle.std.specs.Prelude.{◌≡◌, ℤ, true, false, pos, ◌+◌, ◌*◌, ◌/◌, ◌^◌, ◌<◌, ◌≤◌, ◌+ℤ◌, unsigned_abs};
 ghost use Rattle.ring_rules.specs.Borders.{IsAscending, borders_up_to};
 ghost use Rattle.ring_rules.specs.Places.{steps_above};
 
@@ -49,80 +49,28 @@ fn is_before(borders: &[i64], place: usize, v: i64) -> bool
     borders.len() <= place || v < borders[place]
 }
 
-/// How many borders are not above a coordinate: at least `count`. The next two are compared before the rest is searched.
-fn steps_from(borders: &[i64], count: usize, v: i64) -> usize
-    requires rises { IsAscending borders.now }
-    requires count { count ≤ borders_up_to borders.now v }
-    ensures { result ≡ borders_up_to borders.now v }
-{
-    if is_before(borders, count, v) {
-        return count;
-    }
-    if is_before(borders, count + 1, v) {
-        return count + 1;
-    }
-    uneven_steps(borders, v)
-}
-
-/// How many borders are not above `high`, given how many are not above `low`. It is quick where few lie between the two.
+/// How many borders are not above `high`, given how many are not above `low`. Where `high` is not below it, the next two are compared
+/// before all are searched.
 pub(crate) fn later_steps(borders: &[i64], low: i64, count: usize, high: i64) -> usize
     requires rises { IsAscending borders.now }
     requires count { count ≡ borders_up_to borders.now low }
     ensures { result ≡ borders_up_to borders.now high }
 {
-    if high < low {
-        return uneven_steps(borders, high);
+    if low <= high {
+        if is_before(borders, count, high) {
+            return count;
+        }
+        if is_before(borders, count + 1, high) {
+            return count + 1;
+        }
     }
-    steps_from(borders, count, high)
+    uneven_steps(borders, high)
 }
 
 /// The coordinate so many places above the low end.
-fn above(axis: &Axis, count: u64) -> i64
+pub(crate) fn above(axis: &Axis, count: u64) -> i64
     requires { count ≤ axis.now.last }
     ensures { result ≡ axis.now.low +ℤ pos (count * 2 ^ axis.now.shift) }
 {
     axis.low + (count << axis.shift) as i64
-}
-
-/// A lower bound of the coordinates at this place of an even scale and later ones.
-pub(crate) fn even_start(axis: &Axis, place: usize) -> i64
-    requires { place ≤ axis.now.last }
-    ensures { (v : ℤ) → axis.now.least ≤ℤ v → place ≤ steps_above axis.now.low axis.now.shift v → result ≤ℤ v }
-{
-    if place == 0 {
-        return axis.least;
-    }
-    above(axis, place as u64)
-}
-
-/// An upper bound of the coordinates at this place of an even scale and earlier ones.
-pub(crate) fn even_end(axis: &Axis, place: usize) -> i64
-    requires { place < axis.now.last }
-    ensures { (v : ℤ) → steps_above axis.now.low axis.now.shift v ≤ place → v ≤ℤ result }
-{
-    above(axis, place as u64 + 1)
-}
-
-/// A lower bound of the coordinates at this place of an uneven scale and later ones.
-pub(crate) fn uneven_start(borders: &[i64], least: i64, place: usize) -> i64
-    ensures { (v : ℤ) → least ≤ℤ v → place ≤ borders_up_to borders.now v → result ≤ℤ v }
-{
-    if place == 0 {
-        return least;
-    }
-    match borders.get(place - 1) {
-        Some(border) => *border,
-        None => least,
-    }
-}
-
-/// An upper bound of the coordinates at this place of an uneven scale and earlier ones.
-pub(crate) fn uneven_end(borders: &[i64], greatest: i64, place: usize) -> i64
-    requires { IsAscending borders.now }
-    ensures { (v : ℤ) → v ≤ℤ greatest → borders_up_to borders.now v ≤ place → v ≤ℤ result }
-{
-    match borders.get(place) {
-        Some(border) => *border,
-        None => greatest,
-    }
 }

@@ -38,20 +38,12 @@ pub fn core_distance_y(a: &Hole, b: &Hole) -> u64
     range_distance(a.from().y(), a.to().y(), b.from().y(), b.to().y())
 }
 
-/// How far apart the cores of two holes must be at least, in pm: both radii and the gap.
-fn clear_distance(a: &Hole, b: &Hole, rules: Rules) -> u64
-    ensures value { result ≡ a.now.radius + b.now.radius + rules.gap }
-    ensures in_range { result ≤ 20000000000000 }
-{
-    (a.radius() + b.radius() + rules.gap()).unsigned_abs()
-}
-
 /// Whether the distance of the cores of two holes is at least the radii and the gap together.
 pub fn are_clear(a: &Hole, b: &Hole, rules: Rules) -> bool
     ensures { result ≡ are_clear rules.gap a.now b.now }
 {
     let cores = square_length(core_distance_x(a, b), core_distance_y(a, b));
-    square(clear_distance(a, b, rules)) <= cores
+    square((a.radius() + b.radius() + rules.gap()).unsigned_abs()) <= cores
 }
 
 /// Whether no point of one core is nearer to a point of the other than the radii and the gap together. Then no points

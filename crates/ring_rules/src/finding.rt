@@ -7,7 +7,7 @@ ghost use Rattle.ring_rules.specs.Findings.{is_oblique, is_refused_slot};
 use grid_units::{Hole, Profile, Span};
 
 /// A hole of a board, whether its wall is plated, and the layers that it goes through.
-#[derive(Clone, Copy, Debug, PartialEq, Eq)]
+#[derive(Clone, Copy, Debug)]
 pub struct Drilled {
     /// Its two ends, which are one point where it is round, and its radius.
     pub hole: Hole,

@@ -1,6 +1,6 @@
 //! Cells that suit the holes of a board and the zones that are looked for.
 
-ghost use Rattle.std.specs.Prelude.{◌≡◌, ℕ, ◌+◌, ◌*◌, ◌^◌, ◌<◌, ◌≤◌, true, IfOk, IfSome, length};
+ghost use Rattle.std.specs.Prelude.{◌≡◌, ℕ, ◌+◌, ◌*◌, ◌^◌, ◌<◌, ◌≤◌, true, IfOk, length};
 ghost use Rattle.grid_units.specs.Points.{GridPoint};
 ghost use Rattle.pad_shapes.specs.Zones.{IsInZone};
 ghost use Rattle.ring_rules.specs.Places.{entry_at};
@@ -67,22 +67,6 @@ fn even_axis(alloc: Global, least: i64, greatest: i64, spread: &Spread, shift: u
     }
 }
 
-/// A scale with the same ends and a single place.
-fn single(alloc: Global, axis: &Axis) -> Axis
-    ensures last { result.last ≡ 0 }
-    ensures least { result.least ≡ axis.now.least }
-    ensures greatest { result.greatest ≡ axis.now.greatest }
-{
-    Axis {
-        low: axis.low,
-        shift: 0,
-        last: 0,
-        least: axis.least,
-        greatest: axis.greatest,
-        borders: Vec::new(alloc),
-    }
-}
-
 /// Whether two scales make at most 2^62 cells.
 fn fits(x: &Axis, y: &Axis) -> bool
     ensures { result ≡ true → (y.now.last + 1) * (x.now.last + 1) ≤ 2 ^ 62 }
@@ -106,34 +90,12 @@ fn chains_on(
     ensures { IfOk result (λ chains. IsLaidOut chains.x chains.y chains.head.items chains.next.items holes.now) }
 {
     if fits(&x, &y) {
-        chained(alloc, x, y, holes)
-    } else {
-        let (x, y) = (single(alloc, &x), single(alloc, &y));
-        chained(alloc, x, y, holes)
+        return chained(alloc, x, y, holes);
     }
-}
-
-/// The holes in even cells that suit zones about so wide and so high, in pm, unless holes crowd into few of these.
-fn even_cells(
-    alloc: Global,
-    holes: &[Drilled],
-    zone: &Zone,
-    width: u64,
-    height: u64,
-) -> Result<Option<Cells>, AllocError>
-    requires { (k : ℕ) → k < length holes.now → IsInZone zone.now (entry_at holes.now k) }
-    ensures { IfOk result (λ cells. IfSome cells (λ cells. IsSpotted cells.x cells.y cells.starts.items cells.spots holes.now)) }
-{
-    let (spread_x, spread_y) = spreads(alloc, holes)?;
-    let (shift_x, shift_y) = shifts(&spread_x, &spread_y, holes.len(), width, height);
-    let x = even_axis(alloc, zone.left, zone.right, &spread_x, shift_x);
-    let y = even_axis(alloc, zone.bottom, zone.top, &spread_y, shift_y);
-    let even = chains_on(alloc, holes, zone, x, y)?;
-    if is_crowded(&even, holes) {
-        return Ok(None);
-    }
-    let cells = spotted(alloc, even, holes)?;
-    Ok(Some(cells))
+    let (mut x, mut y) = (x, y);
+    x.last = 0;
+    y.last = 0;
+    chained(alloc, x, y, holes)
 }
 
 /// The holes in cells that suit zones about so wide and so high, in pm. The cells are even, or uneven where holes
@@ -147,9 +109,15 @@ pub(crate) fn fitting_cells(
     ensures { IfOk result (λ cells. IsSpotted cells.x cells.y cells.starts.items cells.spots holes.now) }
 {
     let zone = entry_zone(holes);
-    if let Some(cells) = even_cells(alloc, holes, &zone, width, height)? {
-        return Ok(cells);
+    let (spread_x, spread_y) = spreads(alloc, holes)?;
+    let (shift_x, shift_y) = shifts(&spread_x, &spread_y, holes.len(), width, height);
+    let x = even_axis(alloc, zone.left, zone.right, &spread_x, shift_x);
+    let y = even_axis(alloc, zone.bottom, zone.top, &spread_y, shift_y);
+    let even = chains_on(alloc, holes, &zone, x, y)?;
+    if !is_crowded(&even, holes) {
+        return spotted(alloc, even, holes);
     }
+    drop(even);
     let x = uneven_x(alloc, &zone, holes)?;
     let y = uneven_y(alloc, &zone, holes)?;
     let uneven = chains_on(alloc, holes, &zone, x, y)?;

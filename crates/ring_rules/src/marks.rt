@@ -7,7 +7,8 @@ ghost use Rattle.pad_shapes.specs.Holding.{covers_hole};
 
 use crate::finding::is_refused_slot;
 use crate::ordered::between;
-use crate::spot_list::SpotList;
+use crate::regions::RingSearch;
+use crate::ring_index::RingIndex;
 use crate::spots::{FEW_SPOTS, Run};
 use grid_units::{Hole, Rules};
 use pad_shapes::PadShape;
@@ -29,75 +30,48 @@ fn gives_ring<S: PadShape>(pad: &S, hole: &Hole, rules: Rules) -> bool
 }
 
 /// Whether a spot keeps its mark after a pad was tried.
-fn keeps_mark<S: PadShape>(spots: &SpotList, rules: Rules, pad: &S, i: usize, mark: bool) -> bool
-    requires { i < length spots.now }
-    ensures { result ≡ (mark && not (gives_ring_at S.covers rules.profile rules.ring spots.now pad.now i)) }
+fn keeps_mark<S: PadShape>(index: &RingIndex, pad: &S, i: usize, mark: bool) -> bool
+    requires { i < length index.now.cells.spots }
+    ensures { result ≡ (mark && not (gives_ring_at S.covers index.now pad.now i)) }
 {
-    mark && !gives_ring(pad, &spots.at(i).hole, rules)
+    mark && !gives_ring(pad, &index.cells.spots.at(i).hole, index.rules)
 }
 
-/// Removes the marks of the spots of a run to whose holes the pad gives their ring, and returns whether a mark is left.
-pub(crate) fn try_run<S: PadShape>(
-    spots: &SpotList,
-    rules: Rules,
-    pad: &S,
-    run: Run,
-    marks: &mut [bool],
-) -> bool
-    requires within { run.end ≤ length spots.now }
-    requires size { length marks.old ≡ length spots.now }
-    ensures removes { RemovesMarks (gives_ring_at S.covers rules.profile rules.ring spots.now pad.now) marks.old marks.new }
-    ensures tried { NoMarkPassesFrom (gives_ring_at S.covers rules.profile rules.ring spots.now pad.now) run.start run.end marks.new }
-    ensures none { result ≡ false → HasNoMarkFrom run.start run.end marks.new }
-{
-    let mut is_left = false;
-    for i in run.start..run.end {
-        let keeps_mark = keeps_mark(spots, rules, pad, i, marks[i]);
-        marks[i] = keeps_mark;
-        is_left = is_left | keeps_mark;
+impl<S: PadShape> RingSearch<'_, S> {
+    /// Removes the marks of the spots of a run to whose holes the pad gives their ring, and returns whether a mark is left.
+    pub(crate) fn try_run(&self, run: Run, marks: &mut [bool]) -> bool
+        requires within { run.end ≤ length self.now.index.now.cells.spots }
+        requires size { length marks.old ≡ length self.now.index.now.cells.spots }
+        ensures removes { RemovesMarks (gives_ring_at S.covers self.now.index.now self.now.pad.now) marks.old marks.new }
+        ensures tried { NoMarkPassesFrom (gives_ring_at S.covers self.now.index.now self.now.pad.now) run.start run.end marks.new }
+        ensures none { result ≡ false → HasNoMarkFrom run.start run.end marks.new }
+    {
+        let (index, pad) = (self.index, self.pad);
+        let mut is_left = false;
+        for i in run.start..run.end {
+            let keeps_mark = keeps_mark(index, pad, i, marks[i]);
+            marks[i] = keeps_mark;
+            is_left = is_left | keeps_mark;
+        }
+        is_left
     }
-    is_left
-}
 
-/// Does so for a run in the order of x. The pad is tried at the spots from its left to its right: it covers none of the others.
-/// Where there are others, the answer is that a mark may be left.
-fn try_ordered<S: PadShape>(
-    spots: &SpotList,
-    rules: Rules,
-    pad: &S,
-    run: Run,
-    marks: &mut [bool],
-) -> bool
-    requires start { run.start ≤ run.end }
-    requires within { run.end ≤ length spots.now }
-    requires order { AreInOrder run.start run.end spots.now }
-    requires size { length marks.old ≡ length spots.now }
-    ensures removes { RemovesMarks (gives_ring_at S.covers rules.profile rules.ring spots.now pad.now) marks.old marks.new }
-    ensures tried { NoMarkPassesFrom (gives_ring_at S.covers rules.profile rules.ring spots.now pad.now) run.start run.end marks.new }
-    ensures none { result ≡ false → HasNoMarkFrom run.start run.end marks.new }
-{
-    let part = between(spots, run, pad.left(), pad.right());
-    let is_left = try_run(spots, rules, pad, part, marks);
-    is_left || run.start < part.start || part.end < run.end
-}
-
-/// Does so for the spots of one cell, which are in the order of x where they are many.
-pub(crate) fn try_cell<S: PadShape>(
-    spots: &SpotList,
-    rules: Rules,
-    pad: &S,
-    run: Run,
-    marks: &mut [bool],
-) -> bool
-    requires within { run.end ≤ length spots.now }
-    requires order { run.start + 16 < run.end → AreInOrder run.start run.end spots.now }
-    requires size { length marks.old ≡ length spots.now }
-    ensures removes { RemovesMarks (gives_ring_at S.covers rules.profile rules.ring spots.now pad.now) marks.old marks.new }
-    ensures tried { NoMarkPassesFrom (gives_ring_at S.covers rules.profile rules.ring spots.now pad.now) run.start run.end marks.new }
-    ensures none { result ≡ false → HasNoMarkFrom run.start run.end marks.new }
-{
-    if run.end.saturating_sub(run.start) <= FEW_SPOTS {
-        return try_run(spots, rules, pad, run, marks);
+    /// Does so for the spots of one cell. Where they are many, they are in the order of x, and the pad is tried at those from its left to
+    /// its right: it covers none of the others, of which a mark may be left.
+    pub(crate) fn try_cell(&self, run: Run, marks: &mut [bool]) -> bool
+        requires within { run.end ≤ length self.now.index.now.cells.spots }
+        requires order { run.start + 16 < run.end → AreInOrder run.start run.end self.now.index.now.cells.spots }
+        requires size { length marks.old ≡ length self.now.index.now.cells.spots }
+        ensures removes { RemovesMarks (gives_ring_at S.covers self.now.index.now self.now.pad.now) marks.old marks.new }
+        ensures tried { NoMarkPassesFrom (gives_ring_at S.covers self.now.index.now self.now.pad.now) run.start run.end marks.new }
+        ensures none { result ≡ false → HasNoMarkFrom run.start run.end marks.new }
+    {
+        if run.end.saturating_sub(run.start) <= FEW_SPOTS {
+            return self.try_run(run, marks);
+        }
+        let pad = self.pad;
+        let part = between(&self.index.cells.spots, run, pad.left(), pad.right());
+        let is_left = self.try_run(part, marks);
+        is_left || run.start < part.start || part.end < run.end
     }
-    try_ordered(spots, rules, pad, run, marks)
 }

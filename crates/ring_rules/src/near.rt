@@ -4,12 +4,10 @@ ghost use Rattle.std.specs.Prelude.{◌≡◌, ℕ, ◌+◌, ◌<◌, ◌≤◌,
 ghost use Rattle.std.specs.Int.{int_min, int_max};
 ghost use Rattle.std.specs.List.{Contains};
 ghost use Rattle.grid_units.specs.Holes.{GridHole};
-ghost use Rattle.grid_units.specs.Points.{abs_diff};
+ghost use Rattle.grid_units.specs.Points.{IsCoordinate, abs_diff};
 ghost use Rattle.pad_shapes.specs.Zones.{IsInZone};
-ghost use Rattle.ring_rules.specs.Places.{hole_at};
 ghost use Rattle.ring_rules.specs.Spots.{AreInCells, AreSpotsOf};
 ghost use Rattle.ring_rules.specs.Near.{length_of, size_of, IsWithinLimits, AreLimits, IsGapBound, AreNearer, AreWithin};
-ghost use Rattle.ring_rules.specs.Inner.SpotLists.{IsSpotted};
 ghost use Rattle.ring_rules.specs.Inner.ClashingPairs.{AddsClashes, AreSpotsWithin, IsClash, ListsClashes};
 
 use crate::cell_size::sample_index;
@@ -31,9 +29,7 @@ fn length_of(hole: &Hole) -> u64
     ensures value { result ≡ length_of hole.now }
     ensures in_range { result ≤ 20000000000000 }
 {
-    let x = hole.from().x().abs_diff(hole.to().x());
-    let y = hole.from().y().abs_diff(hole.to().y());
-    x.max(y)
+    length_x(hole).max(length_y(hole))
 }
 
 /// The length of a hole's core along x, in pm.
@@ -59,51 +55,17 @@ fn size_of(hole: &Hole) -> u64
     length_of(hole).max(hole.radius().unsigned_abs())
 }
 
-/// A radius that no hole exceeds, in pm.
-fn widest(holes: &[Drilled]) -> u64
-    ensures all { (k : ℕ) → k < length holes.now → (hole_at holes.now k).radius ≤ result }
-    ensures in_range { result ≤ 5000000000000 }
-{
-    let mut widest = 0;
-    for drilled in holes {
-        widest = drilled.hole.radius().unsigned_abs().max(widest);
-    }
-    widest
-}
-
-/// A length along x that the core of no hole exceeds, in pm.
-fn longest_x(holes: &[Drilled]) -> u64
-    ensures all { (k : ℕ) → k < length holes.now → abs_diff (hole_at holes.now k).from.x (hole_at holes.now k).to.x ≤ result }
-    ensures in_range { result ≤ 20000000000000 }
-{
-    let mut longest = 0;
-    for drilled in holes {
-        longest = length_x(&drilled.hole).max(longest);
-    }
-    longest
-}
-
-/// A length along y that the core of no hole exceeds, in pm.
-fn longest_y(holes: &[Drilled]) -> u64
-    ensures all { (k : ℕ) → k < length holes.now → abs_diff (hole_at holes.now k).from.y (hole_at holes.now k).to.y ≤ result }
-    ensures in_range { result ≤ 20000000000000 }
-{
-    let mut longest = 0;
-    for drilled in holes {
-        longest = length_y(&drilled.hole).max(longest);
-    }
-    longest
-}
-
 /// Lengths that no hole of a list exceeds.
 pub fn limits_of(holes: &[Drilled]) -> Limits
     ensures { AreLimits holes.now result }
 {
-    Limits {
-        radius: widest(holes),
-        x: longest_x(holes),
-        y: longest_y(holes),
+    let (mut radius, mut x, mut y) = (0, 0, 0);
+    for drilled in holes {
+        radius = drilled.hole.radius().unsigned_abs().max(radius);
+        x = length_x(&drilled.hole).max(x);
+        y = length_y(&drilled.hole).max(y);
     }
+    Limits { radius, x, y }
 }
 
 /// How far the core of a hole may be at most from that of another one, in pm. The other is no larger and has less
@@ -130,36 +92,15 @@ fn margin(hole: &Hole, far: u64, longest: u64) -> u64
     far + size_of(hole).min(longest)
 }
 
-/// The x that lies `margin` pm left of the core of a hole.
-fn left_of(hole: &Hole, margin: u64) -> i64
-    requires { margin ≤ 70000000000000 }
-    ensures { result ≡ int_min hole.now.from.x hole.now.to.x -ℤ pos margin }
+/// The range of two coordinates, in any order, with `margin` pm more on both sides.
+fn widened(a: i64, b: i64, margin: u64) -> (i64, i64)
+    requires a { IsCoordinate a }
+    requires b { IsCoordinate b }
+    requires margin { margin ≤ 70000000000000 }
+    ensures low { result.0 ≡ int_min a b -ℤ pos margin }
+    ensures high { result.1 ≡ int_max a b +ℤ pos margin }
 {
-    hole.from().x().min(hole.to().x()) - margin as i64
-}
-
-/// The x that lies `margin` pm right of the core of a hole.
-fn right_of(hole: &Hole, margin: u64) -> i64
-    requires { margin ≤ 70000000000000 }
-    ensures { result ≡ int_max hole.now.from.x hole.now.to.x +ℤ pos margin }
-{
-    hole.from().x().max(hole.to().x()) + margin as i64
-}
-
-/// The y that lies `margin` pm below the core of a hole.
-fn below(hole: &Hole, margin: u64) -> i64
-    requires { margin ≤ 70000000000000 }
-    ensures { result ≡ int_min hole.now.from.y hole.now.to.y -ℤ pos margin }
-{
-    hole.from().y().min(hole.to().y()) - margin as i64
-}
-
-/// The y that lies `margin` pm above the core of a hole.
-fn above(hole: &Hole, margin: u64) -> i64
-    requires { margin ≤ 70000000000000 }
-    ensures { result ≡ int_max hole.now.from.y hole.now.to.y +ℤ pos margin }
-{
-    hole.from().y().max(hole.to().y()) + margin as i64
+    (a.min(b) - margin as i64, a.max(b) + margin as i64)
 }
 
 /// A zone that contains the entry point of each hole that is no larger than this one and has its core nearer than `far`.
@@ -167,13 +108,15 @@ fn zone_round(hole: &Hole, far: u64, limits: Limits) -> Zone
     requires { far ≤ 50000000000000 }
     ensures { (o : GridHole) → IsWithinLimits limits o → size_of o ≤ size_of hole.now → AreWithin far o hole.now → IsInZone result o.from }
 {
-    let margin_x = margin(hole, far, limits.x);
-    let margin_y = margin(hole, far, limits.y);
+    let from = hole.from();
+    let to = hole.to();
+    let (left, right) = widened(from.x(), to.x(), margin(hole, far, limits.x));
+    let (bottom, top) = widened(from.y(), to.y(), margin(hole, far, limits.y));
     Zone {
-        left: left_of(hole, margin_x),
-        right: right_of(hole, margin_x),
-        bottom: below(hole, margin_y),
-        top: above(hole, margin_y),
+        left,
+        right,
+        bottom,
+        top,
     }
 }
 
@@ -245,20 +188,6 @@ fn mean_zone_length(holes: &[Drilled], rules: Rules, widest: u64, longest: u64) 
     (sum / count.max(1)).saturating_mul(2)
 }
 
-/// The holes in cells that suit the zones where holes look for their neighbours.
-fn near_cells(
-    alloc: Global,
-    holes: &[Drilled],
-    rules: Rules,
-    limits: Limits,
-) -> Result<Cells, AllocError>
-    ensures { IfOk result (λ cells. IsSpotted cells.x cells.y cells.starts.items cells.spots holes.now) }
-{
-    let width = mean_zone_length(holes, rules, limits.radius, limits.x);
-    let height = mean_zone_length(holes, rules, limits.radius, limits.y);
-    fitting_cells(alloc, holes, width, height)
-}
-
 /// The pairs of holes that are not clear, by the holes in cells. Some may stand twice.
 pub(crate) fn clashes_in(
     alloc: Global,
@@ -289,7 +218,9 @@ pub(crate) fn clashes(
     ensures complete { IfOk result (λ v. (p : ℕ × ℕ) → IsClash rules.gap holes.now p → Contains v.items p) }
 {
     let limits = limits_of(holes);
-    let cells = near_cells(alloc, holes, rules, limits)?;
+    let width = mean_zone_length(holes, rules, limits.radius, limits.x);
+    let height = mean_zone_length(holes, rules, limits.radius, limits.y);
+    let cells = fitting_cells(alloc, holes, width, height)?;
     clashes_in(alloc, &cells, holes, rules, limits)
 }
 

@@ -29,20 +29,6 @@ fn first_from(spots: &SpotList, run: Run, x: i64) -> usize
     low
 }
 
-/// The end of the spots of such a run that do not lie right of a coordinate.
-fn end_up_to(spots: &SpotList, run: Run, x: i64) -> usize
-    requires start { run.start ≤ run.end }
-    requires within { run.end ≤ length spots.now }
-    requires order { AreInOrder run.start run.end spots.now }
-    ensures end { result ≤ run.end }
-    ensures after { (i : ℕ) → result ≤ i → i < run.end → x <ℤ (point_at spots.now i).x }
-{
-    match x.checked_add(1) {
-        Some(past) => first_from(spots, run, past),
-        None => run.end,
-    }
-}
-
 /// The spots of such a run that lie neither left of one coordinate nor right of another.
 pub(crate) fn between(spots: &SpotList, run: Run, left: i64, right: i64) -> Run
     requires start { run.start ≤ run.end }
@@ -51,8 +37,10 @@ pub(crate) fn between(spots: &SpotList, run: Run, left: i64, right: i64) -> Run
     ensures end { result.end ≤ run.end }
     ensures holds { (i : ℕ) → run.start ≤ i → i < run.end → left ≤ℤ (point_at spots.now i).x → (point_at spots.now i).x ≤ℤ right → (result.start ≤ i) × (i < result.end) }
 {
-    Run {
-        start: first_from(spots, run, left),
-        end: end_up_to(spots, run, right),
-    }
+    let start = first_from(spots, run, left);
+    let Some(past) = right.checked_add(1) else {
+        return Run { start, ..run };
+    };
+    let end = first_from(spots, run, past);
+    Run { start, end }
 }

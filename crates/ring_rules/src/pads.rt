@@ -53,52 +53,6 @@ fn range_of<S: PadShape>(x: &Axis, y: &Axis, pad: &S, least: u64) -> CellRange
     }
 }
 
-/// Removes the marks of the holes in a range to which a pad gives their ring. The pad covers no hole outside the range.
-fn try_range<S: PadShape>(
-    index: &RingIndex,
-    pad: &S,
-    range: CellRange,
-    open_nodes: &[bool],
-    marks: &mut [bool],
-)
-    requires ready { IsRingIndex index.now }
-    requires range { (p : GridPoint) (r : ℕ) → index.now.least ≤ r → S.covers pad.now p r ≡ true → IsInRegion index.now.cells.x index.now.cells.y range.region.top range.region.bottom range.region.left range.region.right p }
-    requires bottom { range.region.bottom ≤ index.now.cells.y.last + 1 }
-    requires left { range.region.left ≤ index.now.cells.x.last + 1 }
-    requires right { range.region.right ≤ index.now.cells.x.last + 1 }
-    requires size { length marks.old ≡ length index.now.cells.spots }
-    requires open_nodes { length open_nodes.now ≡ length index.now.nodes.items }
-    requires closed { AreClosedUnmarked index.now.cells.x index.now.cells.y index.now.cells.spots index.now.nodes.items open_nodes.now marks.old }
-    ensures removes { RemovesMarks (gives_ring_at S.covers index.now.rules.profile index.now.rules.ring index.now.cells.spots pad.now) marks.old marks.new }
-    ensures closed { AreClosedUnmarked index.now.cells.x index.now.cells.y index.now.cells.spots index.now.nodes.items open_nodes.now marks.new }
-    ensures tried { (i : ℕ) → i < length index.now.cells.spots → is_marked marks.new i ≡ true → gives_ring_at S.covers index.now.rules.profile index.now.rules.ring index.now.cells.spots pad.now i ≡ false }
-{
-    let search = RingSearch {
-        cells: &index.cells,
-        rules: index.rules,
-        least: index.least,
-    };
-    let _ = search.try_rows(pad, range.region, marks);
-}
-
-/// Removes the marks of all holes to which a pad gives their ring, down the tree.
-fn try_all<S: PadShape>(index: &RingIndex, pad: &S, open_nodes: &mut [bool], marks: &mut [bool])
-    requires ready { IsRingIndex index.now }
-    requires size { length marks.old ≡ length index.now.cells.spots }
-    requires open_nodes { length open_nodes.old ≡ length index.now.nodes.items }
-    requires closed { AreClosedUnmarked index.now.cells.x index.now.cells.y index.now.cells.spots index.now.nodes.items open_nodes.old marks.old }
-    ensures removes { RemovesMarks (gives_ring_at S.covers index.now.rules.profile index.now.rules.ring index.now.cells.spots pad.now) marks.old marks.new }
-    ensures closed { AreClosedUnmarked index.now.cells.x index.now.cells.y index.now.cells.spots index.now.nodes.items open_nodes.new marks.new }
-    ensures tried { (i : ℕ) → i < length index.now.cells.spots → is_marked marks.new i ≡ true → gives_ring_at S.covers index.now.rules.profile index.now.rules.ring index.now.cells.spots pad.now i ≡ false }
-{
-    let search = RingSearch {
-        cells: &index.cells,
-        rules: index.rules,
-        least: index.least,
-    };
-    search.try_tree(pad, &index.nodes, open_nodes, marks);
-}
-
 /// Whether the cells of a range are tried one by one: they are few, or a strip.
 fn is_small(range: CellRange) -> bool {
     let region = range.region;
@@ -107,21 +61,24 @@ fn is_small(range: CellRange) -> bool {
     range.is_strip || rows.saturating_mul(columns) <= FEW
 }
 
-/// Removes the marks of the holes to which a pad gives their ring.
-fn try_pad<S: PadShape>(index: &RingIndex, pad: &S, open_nodes: &mut [bool], marks: &mut [bool])
-    requires ready { IsRingIndex index.now }
-    requires size { length marks.old ≡ length index.now.cells.spots }
-    requires open_nodes { length open_nodes.old ≡ length index.now.nodes.items }
-    requires closed { AreClosedUnmarked index.now.cells.x index.now.cells.y index.now.cells.spots index.now.nodes.items open_nodes.old marks.old }
-    ensures removes { RemovesMarks (gives_ring_at S.covers index.now.rules.profile index.now.rules.ring index.now.cells.spots pad.now) marks.old marks.new }
-    ensures closed { AreClosedUnmarked index.now.cells.x index.now.cells.y index.now.cells.spots index.now.nodes.items open_nodes.new marks.new }
-    ensures tried { (i : ℕ) → i < length index.now.cells.spots → is_marked marks.new i ≡ true → gives_ring_at S.covers index.now.rules.profile index.now.rules.ring index.now.cells.spots pad.now i ≡ false }
-{
-    let range = range_of(&index.cells.x, &index.cells.y, pad, index.least);
-    if is_small(range) {
-        try_range(index, pad, range, open_nodes, marks);
-    } else {
-        try_all(index, pad, open_nodes, marks);
+impl<S: PadShape> RingSearch<'_, S> {
+    /// Removes the marks of the holes to which the pad gives their ring: it covers no hole outside its range.
+    fn try_pad(&self, open_nodes: &mut [bool], marks: &mut [bool])
+        requires ready { IsRingIndex self.now.index.now }
+        requires size { length marks.old ≡ length self.now.index.now.cells.spots }
+        requires open_nodes { length open_nodes.old ≡ length self.now.index.now.nodes.items }
+        requires closed { AreClosedUnmarked self.now.index.now.cells.x self.now.index.now.cells.y self.now.index.now.cells.spots self.now.index.now.nodes.items open_nodes.old marks.old }
+        ensures removes { RemovesMarks (gives_ring_at S.covers self.now.index.now self.now.pad.now) marks.old marks.new }
+        ensures closed { AreClosedUnmarked self.now.index.now.cells.x self.now.index.now.cells.y self.now.index.now.cells.spots self.now.index.now.nodes.items open_nodes.new marks.new }
+        ensures tried { (i : ℕ) → i < length self.now.index.now.cells.spots → is_marked marks.new i ≡ true → gives_ring_at S.covers self.now.index.now self.now.pad.now i ≡ false }
+    {
+        let index = self.index;
+        let range = range_of(&index.cells.x, &index.cells.y, self.pad, index.least);
+        if is_small(range) {
+            let _ = self.try_rows(range.region, marks);
+        } else {
+            self.try_tree(open_nodes, marks);
+        }
     }
 }
 
@@ -140,6 +97,7 @@ pub(crate) fn try_pads<S: PadShape>(
     ensures marked { (i : ℕ) → i < length index.now.cells.spots → is_marked marks.new i ≡ (is_marked marks.old i && not (list_any (gives_ring S.covers index.now.rules.profile index.now.rules.ring (spot_at index.now.cells.spots i).hole) pads.now)) }
 {
     for pad in pads {
-        try_pad(index, pad, open_nodes, marks);
+        let search = RingSearch { index, pad };
+        search.try_pad(open_nodes, marks);
     }
 }

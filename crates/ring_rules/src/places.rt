@@ -3,9 +3,7 @@
 ghost use Rattle.std.specs.Prelude.{◌≡◌, ℤ, ◌≤◌, ◌<◌, ◌≤ℤ◌};
 ghost use Rattle.ring_rules.specs.Cells.{steps_to, place_of};
 
-use crate::axis::{
-    Axis, even_end, even_start, even_steps, later_steps, uneven_end, uneven_start, uneven_steps,
-};
+use crate::axis::{Axis, above, even_steps, later_steps, uneven_steps};
 
 /// How many borders are not above a coordinate; on a scale without borders, how many steps it lies above the low end.
 fn steps_to(axis: &Axis, v: i64) -> u64
@@ -56,22 +54,15 @@ pub(crate) fn place_start(axis: &Axis, place: usize) -> i64
     requires { place ≤ axis.now.last }
     ensures { (v : ℤ) → axis.now.least ≤ℤ v → place ≤ place_of axis.now v → result ≤ℤ v }
 {
-    if axis.borders.is_empty() {
-        even_start(axis, place)
-    } else {
-        uneven_start(&axis.borders, axis.least, place)
+    if place == 0 {
+        return axis.least;
     }
-}
-
-/// An upper bound of the coordinates at this place, which is not the last one, and earlier ones.
-fn inner_end(axis: &Axis, place: usize) -> i64
-    requires { place < axis.now.last }
-    ensures { (v : ℤ) → v ≤ℤ axis.now.greatest → place_of axis.now v ≤ place → v ≤ℤ result }
-{
     if axis.borders.is_empty() {
-        even_end(axis, place)
-    } else {
-        uneven_end(&axis.borders, axis.greatest, place)
+        return above(axis, place as u64);
+    }
+    match axis.borders.get(place - 1) {
+        Some(border) => *border,
+        None => axis.least,
     }
 }
 
@@ -80,8 +71,13 @@ pub(crate) fn place_end(axis: &Axis, place: usize) -> i64
     ensures { (v : ℤ) → v ≤ℤ axis.now.greatest → place_of axis.now v ≤ place → v ≤ℤ result }
 {
     if axis.last <= place {
-        axis.greatest
-    } else {
-        inner_end(axis, place)
+        return axis.greatest;
+    }
+    if axis.borders.is_empty() {
+        return above(axis, place as u64 + 1);
+    }
+    match axis.borders.get(place) {
+        Some(border) => *border,
+        None => axis.greatest,
     }
 }

@@ -3,14 +3,14 @@
 ghost use Rattle.std.specs.Prelude.{◌≡◌, ◌+◌, ◌≤◌, ◌<◌, false, length};
 ghost use Rattle.grid_units.specs.Points.{GridPoint};
 ghost use Rattle.pad_shapes.specs.Zones.{IsInZone};
+ghost use Rattle.ring_rules.specs.Search.{IsRingIndex};
 ghost use Rattle.ring_rules.specs.Inner.Marks.{gives_ring_at, RemovesMarks};
-ghost use Rattle.ring_rules.specs.Inner.Regions.{IsInRegion, IsOnBoard, IsHoleGrid, NoMarkPassesIn, HasNoMarkIn};
+ghost use Rattle.ring_rules.specs.Inner.Regions.{IsInRegion, IsOnBoard, NoMarkPassesIn, HasNoMarkIn};
 
 use crate::axis::Axis;
-use crate::marks::{try_cell, try_run};
 use crate::places::{place_end, place_start, places};
-use crate::spots::{Cells, FEW_SPOTS};
-use grid_units::Rules;
+use crate::ring_index::RingIndex;
+use crate::spots::FEW_SPOTS;
 use pad_shapes::{PadShape, Zone};
 
 /// A region of a grid: rows from `top` to `bottom` and columns from `left` to `right`, ends excluded.
@@ -22,12 +22,11 @@ pub(crate) struct Region {
     pub right: usize,
 }
 
-/// A search for the holes to which pads give their ring: the holes of a board in the order of their cells, the rules, and a reach that no hole falls short of, in pm.
-#[derive(Clone, Copy)]
-pub(crate) struct RingSearch<'a> {
-    pub cells: &'a Cells,
-    pub rules: Rules,
-    pub least: u64,
+/// A search for the holes of an index to which a pad gives their ring.
+#[derive(Drop)]
+pub(crate) struct RingSearch<'a, S> {
+    pub index: &'a RingIndex,
+    pub pad: &'a S,
 }
 
 /// The rows and columns where the points of a zone lie.
@@ -63,24 +62,18 @@ pub(crate) fn zone_of(x: &Axis, y: &Axis, region: Region) -> Zone
     }
 }
 
-impl RingSearch<'_> {
-    /// Tries a pad at the holes of the cell in a row and a column, if it can cover any point there.
-    fn try_cell_at<S: PadShape>(
-        &self,
-        pad: &S,
-        row: usize,
-        column: usize,
-        marks: &mut [bool],
-    ) -> bool
-        requires ready { IsHoleGrid self.now.cells.now.x self.now.cells.now.y self.now.cells.now.starts.items self.now.cells.now.spots self.now.rules.ring self.now.least }
-        requires size { length marks.old ≡ length self.now.cells.now.spots }
-        requires row { row ≤ self.now.cells.now.y.last }
-        requires column { column ≤ self.now.cells.now.x.last }
-        ensures removes { RemovesMarks (gives_ring_at S.covers self.now.rules.profile self.now.rules.ring self.now.cells.now.spots pad.now) marks.old marks.new }
-        ensures tried { NoMarkPassesIn (gives_ring_at S.covers self.now.rules.profile self.now.rules.ring self.now.cells.now.spots pad.now) self.now.cells.now.x self.now.cells.now.y self.now.cells.now.spots row (row + 1) column (column + 1) marks.new }
-        ensures none { result ≡ false → HasNoMarkIn self.now.cells.now.x self.now.cells.now.y self.now.cells.now.spots row (row + 1) column (column + 1) marks.new }
+impl<S: PadShape> RingSearch<'_, S> {
+    /// Tries the pad at the holes of the cell in a row and a column, if it can cover any point there.
+    fn try_cell_at(&self, row: usize, column: usize, marks: &mut [bool]) -> bool
+        requires ready { IsRingIndex self.now.index.now }
+        requires size { length marks.old ≡ length self.now.index.now.cells.spots }
+        requires row { row ≤ self.now.index.now.cells.y.last }
+        requires column { column ≤ self.now.index.now.cells.x.last }
+        ensures removes { RemovesMarks (gives_ring_at S.covers self.now.index.now self.now.pad.now) marks.old marks.new }
+        ensures tried { NoMarkPassesIn (gives_ring_at S.covers self.now.index.now self.now.pad.now) self.now.index.now.cells.x self.now.index.now.cells.y self.now.index.now.cells.spots row (row + 1) column (column + 1) marks.new }
+        ensures none { result ≡ false → HasNoMarkIn self.now.index.now.cells.x self.now.index.now.cells.y self.now.index.now.cells.spots row (row + 1) column (column + 1) marks.new }
     {
-        let run = self.cells.run(row, column, column + 1);
+        let run = self.index.cells.run(row, column, column + 1);
         if run.end <= run.start {
             return false;
         }
@@ -90,76 +83,63 @@ impl RingSearch<'_> {
             left: column,
             right: column + 1,
         };
-        if !pad.may_cover(&zone_of(&self.cells.x, &self.cells.y, region), self.least) {
+        let zone = zone_of(&self.index.cells.x, &self.index.cells.y, region);
+        if !self.pad.may_cover(&zone, self.index.least) {
             return true;
         }
-        try_cell(&self.cells.spots, self.rules, pad, run, marks)
+        self.try_cell(run, marks)
     }
 
-    /// Tries a pad at the holes of a row cell by cell, in columns from `left` to `right`, end excluded.
-    fn try_cells<S: PadShape>(
-        &self,
-        pad: &S,
-        row: usize,
-        left: usize,
-        right: usize,
-        marks: &mut [bool],
-    ) -> bool
-        requires ready { IsHoleGrid self.now.cells.now.x self.now.cells.now.y self.now.cells.now.starts.items self.now.cells.now.spots self.now.rules.ring self.now.least }
-        requires size { length marks.old ≡ length self.now.cells.now.spots }
-        requires row { row ≤ self.now.cells.now.y.last }
-        requires right { right ≤ self.now.cells.now.x.last + 1 }
-        ensures removes { RemovesMarks (gives_ring_at S.covers self.now.rules.profile self.now.rules.ring self.now.cells.now.spots pad.now) marks.old marks.new }
-        ensures tried { NoMarkPassesIn (gives_ring_at S.covers self.now.rules.profile self.now.rules.ring self.now.cells.now.spots pad.now) self.now.cells.now.x self.now.cells.now.y self.now.cells.now.spots row (row + 1) left right marks.new }
-        ensures none { result ≡ false → HasNoMarkIn self.now.cells.now.x self.now.cells.now.y self.now.cells.now.spots row (row + 1) left right marks.new }
+    /// Tries the pad at the holes of a row cell by cell, in columns from `left` to `right`, end excluded.
+    fn try_cells(&self, row: usize, left: usize, right: usize, marks: &mut [bool]) -> bool
+        requires ready { IsRingIndex self.now.index.now }
+        requires size { length marks.old ≡ length self.now.index.now.cells.spots }
+        requires row { row ≤ self.now.index.now.cells.y.last }
+        requires right { right ≤ self.now.index.now.cells.x.last + 1 }
+        ensures removes { RemovesMarks (gives_ring_at S.covers self.now.index.now self.now.pad.now) marks.old marks.new }
+        ensures tried { NoMarkPassesIn (gives_ring_at S.covers self.now.index.now self.now.pad.now) self.now.index.now.cells.x self.now.index.now.cells.y self.now.index.now.cells.spots row (row + 1) left right marks.new }
+        ensures none { result ≡ false → HasNoMarkIn self.now.index.now.cells.x self.now.index.now.cells.y self.now.index.now.cells.spots row (row + 1) left right marks.new }
     {
         let mut is_left = false;
         for column in left..right {
-            let rest = self.try_cell_at(pad, row, column, marks);
+            let rest = self.try_cell_at(row, column, marks);
             is_left = is_left | rest;
         }
         is_left
     }
 
-    /// Tries a pad at the holes of a row, in columns from `left` to `right`, end excluded: one after the other where they are few, else cell by cell.
-    fn try_row<S: PadShape>(
-        &self,
-        pad: &S,
-        row: usize,
-        left: usize,
-        right: usize,
-        marks: &mut [bool],
-    ) -> bool
-        requires ready { IsHoleGrid self.now.cells.now.x self.now.cells.now.y self.now.cells.now.starts.items self.now.cells.now.spots self.now.rules.ring self.now.least }
-        requires size { length marks.old ≡ length self.now.cells.now.spots }
-        requires row { row ≤ self.now.cells.now.y.last }
-        requires left { left ≤ self.now.cells.now.x.last + 1 }
-        requires right { right ≤ self.now.cells.now.x.last + 1 }
-        ensures removes { RemovesMarks (gives_ring_at S.covers self.now.rules.profile self.now.rules.ring self.now.cells.now.spots pad.now) marks.old marks.new }
-        ensures tried { NoMarkPassesIn (gives_ring_at S.covers self.now.rules.profile self.now.rules.ring self.now.cells.now.spots pad.now) self.now.cells.now.x self.now.cells.now.y self.now.cells.now.spots row (row + 1) left right marks.new }
-        ensures none { result ≡ false → HasNoMarkIn self.now.cells.now.x self.now.cells.now.y self.now.cells.now.spots row (row + 1) left right marks.new }
+    /// Tries the pad at the holes of a row, in columns from `left` to `right`, end excluded: one after the other where they are few, else cell by cell.
+    fn try_row(&self, row: usize, left: usize, right: usize, marks: &mut [bool]) -> bool
+        requires ready { IsRingIndex self.now.index.now }
+        requires size { length marks.old ≡ length self.now.index.now.cells.spots }
+        requires row { row ≤ self.now.index.now.cells.y.last }
+        requires left { left ≤ self.now.index.now.cells.x.last + 1 }
+        requires right { right ≤ self.now.index.now.cells.x.last + 1 }
+        ensures removes { RemovesMarks (gives_ring_at S.covers self.now.index.now self.now.pad.now) marks.old marks.new }
+        ensures tried { NoMarkPassesIn (gives_ring_at S.covers self.now.index.now self.now.pad.now) self.now.index.now.cells.x self.now.index.now.cells.y self.now.index.now.cells.spots row (row + 1) left right marks.new }
+        ensures none { result ≡ false → HasNoMarkIn self.now.index.now.cells.x self.now.index.now.cells.y self.now.index.now.cells.spots row (row + 1) left right marks.new }
     {
-        let run = self.cells.run(row, left, right);
+        let run = self.index.cells.run(row, left, right);
         if FEW_SPOTS < run.end.saturating_sub(run.start) {
-            return self.try_cells(pad, row, left, right, marks);
+            return self.try_cells(row, left, right, marks);
         }
-        try_run(&self.cells.spots, self.rules, pad, run, marks)
+        self.try_run(run, marks)
     }
 
-    /// Tries a pad at the holes of a region row by row. Returns whether a mark may be left there.
-    pub(crate) fn try_rows<S: PadShape>(&self, pad: &S, region: Region, marks: &mut [bool]) -> bool
-        requires ready { IsHoleGrid self.now.cells.now.x self.now.cells.now.y self.now.cells.now.starts.items self.now.cells.now.spots self.now.rules.ring self.now.least }
-        requires size { length marks.old ≡ length self.now.cells.now.spots }
-        requires bottom { region.bottom ≤ self.now.cells.now.y.last + 1 }
-        requires left { region.left ≤ self.now.cells.now.x.last + 1 }
-        requires right { region.right ≤ self.now.cells.now.x.last + 1 }
-        ensures removes { RemovesMarks (gives_ring_at S.covers self.now.rules.profile self.now.rules.ring self.now.cells.now.spots pad.now) marks.old marks.new }
-        ensures tried { NoMarkPassesIn (gives_ring_at S.covers self.now.rules.profile self.now.rules.ring self.now.cells.now.spots pad.now) self.now.cells.now.x self.now.cells.now.y self.now.cells.now.spots region.top region.bottom region.left region.right marks.new }
-        ensures none { result ≡ false → HasNoMarkIn self.now.cells.now.x self.now.cells.now.y self.now.cells.now.spots region.top region.bottom region.left region.right marks.new }
+    /// Tries the pad at the holes of a region row by row. Returns whether a mark may be left there.
+    pub(crate) fn try_rows(&self, region: Region, marks: &mut [bool]) -> bool
+        requires ready { IsRingIndex self.now.index.now }
+        requires size { length marks.old ≡ length self.now.index.now.cells.spots }
+        requires bottom { region.bottom ≤ self.now.index.now.cells.y.last + 1 }
+        requires left { region.left ≤ self.now.index.now.cells.x.last + 1 }
+        requires right { region.right ≤ self.now.index.now.cells.x.last + 1 }
+        ensures removes { RemovesMarks (gives_ring_at S.covers self.now.index.now self.now.pad.now) marks.old marks.new }
+        ensures tried { NoMarkPassesIn (gives_ring_at S.covers self.now.index.now self.now.pad.now) self.now.index.now.cells.x self.now.index.now.cells.y self.now.index.now.cells.spots region.top region.bottom region.left region.right marks.new }
+        ensures none { result ≡ false → HasNoMarkIn self.now.index.now.cells.x self.now.index.now.cells.y self.now.index.now.cells.spots region.top region.bottom region.left region.right marks.new }
     {
         let mut is_left = false;
         for row in region.top..region.bottom {
-            let rest = self.try_row(pad, row, region.left, region.right, marks);
+            let rest = self.try_row(row, region.left, region.right, marks);
             is_left = is_left | rest;
         }
         is_left

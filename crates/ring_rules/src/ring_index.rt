@@ -3,6 +3,7 @@
 ghost use Rattle.std.specs.Prelude.{◌≡◌, ℕ, ◌+◌, ◌<◌, ◌≤◌, IfOk, length};
 ghost use Rattle.ring_rules.specs.Spots.{spot_at};
 ghost use Rattle.ring_rules.specs.Search.{IsRingIndexOf};
+ghost use Rattle.ring_rules.specs.Inner.Trees.{node_at};
 
 use crate::finding::Drilled;
 use crate::layout::fitting_cells;
@@ -68,5 +69,13 @@ impl RingIndex {
             least,
             rules,
         })
+    }
+
+    /// The node of the tree at an index.
+    pub(crate) fn node(&self, i: usize) -> Node
+        requires { i < length self.now.nodes.items }
+        ensures { result ≡ node_at self.now.nodes.items i }
+    {
+        self.nodes[i]
     }
 }

@@ -3,7 +3,6 @@
 ghost use Rattle.std.specs.Prelude.{◌≡◌, ◌++◌, Bool, length, map, IfOk, OnOk};
 ghost use Rattle.std.specs.List.{filter, enumerate_from};
 ghost use Rattle.ring_rules.specs.Findings.{finding_of, layer_findings, ring_findings};
-ghost use Rattle.ring_rules.specs.Search.{IsRingIndexOf};
 ghost use Rattle.ring_rules.specs.declared.finding.Drilled.{Drilled};
 
 use crate::cell_size::sample_index;
@@ -11,7 +10,7 @@ use crate::finding::{Drilled, Finding, is_refused_slot};
 use crate::layer_search::LayerSearch;
 use crate::ring_index::RingIndex;
 use grid_units::{Profile, Rules};
-use pad_shapes::{PadShape, Zone};
+use pad_shapes::PadShape;
 use std::alloc::{AllocError, Global};
 
 /// The finding at a hole that lacks its ring: `Oblique` for a slot that the profile refuses, else `Ring`.
@@ -48,14 +47,6 @@ pub fn layer_findings(
     Ok(())
 }
 
-/// The zone of the pad at a place, if there is such a pad and it has one.
-fn zone_at<S: PadShape>(pads: &[S], place: usize) -> Option<Zone> {
-    match pads.get(place) {
-        Some(pad) => pad.zone(0),
-        None => None,
-    }
-}
-
 /// The mean width and height of the zones of a sample of the pads, in pm. Any answer is right: an index of holes is only quicker by it.
 pub fn mean_zone_size<S: PadShape>(layers: &[&[S]]) -> (u64, u64) {
     let mut width: u64 = 0;
@@ -63,7 +54,8 @@ pub fn mean_zone_size<S: PadShape>(layers: &[&[S]]) -> (u64, u64) {
     let mut count: u64 = 0;
     for pads in layers {
         for draw in 0..(pads.len() as u64).min(256) {
-            if let Some(zone) = zone_at(pads, sample_index(draw, pads.len())) {
+            let pad = pads.get(sample_index(draw, pads.len()));
+            if let Some(zone) = pad.and_then(|pad| pad.zone(0)) {
                 width = width.saturating_add(zone.left.abs_diff(zone.right));
                 height = height.saturating_add(zone.bottom.abs_diff(zone.top));
                 count = count.saturating_add(1);
@@ -71,23 +63,6 @@ pub fn mean_zone_size<S: PadShape>(layers: &[&[S]]) -> (u64, u64) {
         }
     }
     (width / count.max(1), height / count.max(1))
-}
-
-/// Appends the findings of one layer with these pads.
-fn push_layer<S: PadShape>(
-    alloc: Global,
-    index: &RingIndex,
-    holes: &[Drilled],
-    layer: usize,
-    pads: &[S],
-    findings: &mut Vec<Finding>,
-) -> Result<(), AllocError>
-    requires { IsRingIndexOf holes.now index.now }
-    ensures { OnOk result (findings.new.items ≡ findings.old.items ++ layer_findings S.covers index.now.rules.profile index.now.rules.ring holes.now layer pads.now) }
-{
-    let mut search = LayerSearch::new(alloc, index, holes, layer)?;
-    search.try_pads(index, pads);
-    search.push_findings(alloc, index, holes, findings)
 }
 
 /// Lists, layer by layer and hole by hole, each plated hole that goes through the layer and has no ring there. No
@@ -108,7 +83,9 @@ pub fn ring_findings<S: PadShape>(
     let index = RingIndex::new(alloc, holes, rules, width, height)?;
     let mut findings = Vec::new(alloc);
     for (layer, pads) in layers.iter().enumerate() {
-        push_layer(alloc, &index, holes, layer, pads, &mut findings)?;
+        let mut search = LayerSearch::new(alloc, &index, holes, layer)?;
+        search.try_pads(&index, pads);
+        search.push_findings(alloc, &index, holes, &mut findings)?;
     }
     Ok(findings)
 }

@@ -82,31 +82,14 @@ fn end_y(form: &Hole, from: Point) -> i64
     from.y() + way_y(form)
 }
 
-/// That end.
-fn end_of(form: &Hole, from: Point) -> Point
-    requires x { IsCoordinate (hole_of_form form.now from).to.x }
-    requires y { IsCoordinate (hole_of_form form.now from).to.y }
-    ensures x { result.x ≡ (hole_of_form form.now from).to.x }
-    ensures y { result.y ≡ (hole_of_form form.now from).to.y }
-{
-    Point::new(end_x(form, from), end_y(form, from)).unwrap()
-}
-
-/// A hole between two points, with the radius of a form.
-fn hole_between(from: Point, to: Point, form: &Hole) -> Hole
-    ensures { result ≡ record { from = from; to = to; radius = form.now.radius } }
-{
-    Hole::new(from, to, form.radius()).unwrap()
-}
-
 /// The hole of a form that begins at a point.
 fn moved(form: &Hole, from: Point) -> Hole
     requires x { IsCoordinate (hole_of_form form.now from).to.x }
     requires y { IsCoordinate (hole_of_form form.now from).to.y }
     ensures { result ≡ hole_of_form form.now from }
 {
-    let to = end_of(form, from);
-    hole_between(from, to, form)
+    let to = Point::new(end_x(form, from), end_y(form, from)).unwrap();
+    Hole::new(from, to, form.radius()).unwrap()
 }
 
 /// Whether two holes have the same form.

@@ -25,18 +25,10 @@ fn halves_by_row(region: Region) -> (Region, Region)
     ensures { AreHalves region result }
 {
     let middle = region.top + (region.bottom - region.top) / 2;
-    let first = Region {
-        top: region.top,
-        bottom: middle,
-        left: region.left,
-        right: region.right,
-    };
-    let second = Region {
-        top: middle,
-        bottom: region.bottom,
-        left: region.left,
-        right: region.right,
-    };
+    let mut first = region;
+    first.bottom = middle;
+    let mut second = region;
+    second.top = middle;
     (first, second)
 }
 
@@ -47,18 +39,10 @@ fn halves_by_column(region: Region) -> (Region, Region)
     ensures { AreHalves region result }
 {
     let middle = region.left + (region.right - region.left) / 2;
-    let first = Region {
-        top: region.top,
-        bottom: region.bottom,
-        left: region.left,
-        right: middle,
-    };
-    let second = Region {
-        top: region.top,
-        bottom: region.bottom,
-        left: middle,
-        right: region.right,
-    };
+    let mut first = region;
+    first.right = middle;
+    let mut second = region;
+    second.left = middle;
     (first, second)
 }
 
@@ -79,22 +63,6 @@ fn halves(region: Region, leaf_cells: usize) -> Option<(Region, Region)>
     } else {
         None
     }
-}
-
-/// The end of the parts of a node.
-pub(crate) fn end_at(nodes: &[Node], i: usize) -> usize
-    requires { i < length nodes.now }
-    ensures { result ≡ (node_at nodes.now i).end }
-{
-    nodes[i].end
-}
-
-/// The region of a node.
-pub(crate) fn region_at(nodes: &[Node], i: usize) -> Region
-    requires { i < length nodes.now }
-    ensures { result ≡ (node_at nodes.now i).region }
-{
-    nodes[i].region
 }
 
 /// Appends the tree of a region.

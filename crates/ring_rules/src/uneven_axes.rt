@@ -1,7 +1,6 @@
 //! Boards with many holes in few cells of an even grid, and uneven scales that divide these holes.
 
 ghost use Rattle.std.specs.Prelude.{◌≡◌, ◌+◌, ◌*◌, ◌^◌, ◌≤◌, IfOk};
-ghost use Rattle.ring_rules.specs.Borders.{IsAscending};
 
 use crate::axis::Axis;
 use crate::cell_size::sample_index;
@@ -62,30 +61,27 @@ fn quantiles(alloc: Global, values: &[i64]) -> Result<Vec<i64>, AllocError> {
     Ok(quantiles)
 }
 
-/// Borders with about equally many of the values between each two of them.
-fn borders_of(alloc: Global, values: &mut Vec<i64>) -> Result<Vec<i64>, AllocError>
-    ensures { IfOk result (λ v. IsAscending v.items) }
+/// An uneven scale with about equally many of the values between each two of its borders.
+fn scale_of(
+    alloc: Global,
+    values: &mut Vec<i64>,
+    least: i64,
+    greatest: i64,
+) -> Result<Axis, AllocError>
+    ensures least { IfOk result (λ s. s.least ≡ least) }
+    ensures greatest { IfOk result (λ s. s.greatest ≡ greatest) }
 {
     values.sort_unstable();
     let mut borders = quantiles(alloc, values)?;
     borders.sort_unstable();
-    Ok(borders)
-}
-
-/// The uneven scale with these borders.
-fn scale_of(borders: Vec<i64>, least: i64, greatest: i64) -> Axis
-    requires { IsAscending borders.items }
-    ensures least { result.least ≡ least }
-    ensures greatest { result.greatest ≡ greatest }
-{
-    Axis {
+    Ok(Axis {
         low: 0,
         shift: 0,
         last: borders.len(),
         least,
         greatest,
         borders,
-    }
+    })
 }
 
 /// A scale along x that divides the holes evenly, for the points of a zone.
@@ -97,8 +93,7 @@ pub(crate) fn uneven_x(alloc: Global, zone: &Zone, holes: &[Drilled]) -> Result<
         .iter()
         .map(|drilled| drilled.hole.from().x())
         .collect(alloc)?;
-    let borders = borders_of(alloc, &mut values)?;
-    Ok(scale_of(borders, zone.left, zone.right))
+    scale_of(alloc, &mut values, zone.left, zone.right)
 }
 
 /// A scale along y that divides the holes evenly, for the points of a zone.
@@ -110,6 +105,5 @@ pub(crate) fn uneven_y(alloc: Global, zone: &Zone, holes: &[Drilled]) -> Result<
         .iter()
         .map(|drilled| drilled.hole.from().y())
         .collect(alloc)?;
-    let borders = borders_of(alloc, &mut values)?;
-    Ok(scale_of(borders, zone.bottom, zone.top))
+    scale_of(alloc, &mut values, zone.bottom, zone.top)
 }

@@ -14,16 +14,17 @@ pub use Rattle.package_check.specs.OpenFiles.{HasOpened, HasOpenedCopper}
 pub use Rattle.package_check.specs.Package.{FileView, ReadsBytes, ReadsCopper, ReadsHoles, ReadsUnlessBadSpan, ReturnsReport, Setting, is_bad_span, is_copper}
 pub use Rattle.package_check.specs.declared.PackageFault.{PackageFault}
 pub use Rattle.ringcheck.specs.CheckStatus.{Checks, HasFiles, HasTable, HoldsForPackage, IsPackageRefusal, IsParsedCheckStatus, RefusedAmong, RefusedFile, SaysPackage, bad_file, file_views_among, long_file, refused_file, refused_manifest, setting_in, sources, status_of}
-pub use Rattle.ringcheck.specs.DrawStatus.{IsOutlinedDrawStatus, IsParsedDrawStatus, PrintsPicture}
-pub use Rattle.ringcheck.specs.Inner.Halting.{AfterHalt, AfterNoTable, Halts, HaltsTable, OfFiles, OfTaken, RefusesTable, refusal}
+pub use Rattle.ringcheck.specs.DrawStatus.{IsDrawStatus, IsParsedDrawStatus, PrintsPicture}
+pub use Rattle.ringcheck.specs.Inner.Halting.{AfterHalt, AfterNoTable, Halts, HaltsTable, OfFiles, RefusesTable, refusal}
 pub use Rattle.ringcheck.specs.Inner.Jobs.{Holds, SaysJob, given_waivers, job_profile, job_style}
 pub use Rattle.ringcheck.specs.Inner.Loading.{AreFirstOf, CopperGoesOn, EndsAt, GoesOn, HasLoaded, LoadsCopper, LoadsCopperTo, LoadsFile, LoadsKind, OfCheckedCopper, RefusesLong, is_kind_at, is_kind_of, source}
 pub use Rattle.ringcheck.specs.MeasureStatus.{IsParsedMeasureStatus, PrintsMeasure, measure_page, measure_style}
-pub use Rattle.ringcheck.specs.ParsedWords.{parse_check, parse_draw, parse_measure, parse_report, profile_of}
+pub use Rattle.ringcheck.specs.Outlining.{IsOutlinedStatus}
+pub use Rattle.ringcheck.specs.ParsedWords.{parse_check, parse_draw, parse_measure, parse_report, profile_of, word_bytes}
 unfoldable pub use Rattle.ringcheck.specs.ParsedWords.{parse_count}
 pub use Rattle.ringcheck.specs.Refusals.{PrintsRefusal, Refusal, indented_row, of_archive, of_file, of_role}
-pub use Rattle.ringcheck.specs.ReportStatus.{IsFewer, IsOutlinedReportStatus, IsParsedReportStatus, IsWaivingReportStatus, Judges, PrintsReport, Reports, asks_wide, has_none, kept_for, report_style, says_fewer}
-pub use Rattle.ringcheck.specs.RequestStatus.{IsExitOf, IsRequestStatus, word_bytes}
+pub use Rattle.ringcheck.specs.ReportStatus.{IsFewer, IsParsedReportStatus, IsReportStatus, IsWaivingReportStatus, Judges, PrintsReport, Reports, asks_wide, has_none, kept_for, report_style, says_fewer}
+pub use Rattle.ringcheck.specs.RequestStatus.{IsExitOf, IsRequestStatus}
 pub use Rattle.ringcheck.specs.declared.parsed_words.ReportFormat.{ReportFormat}
 pub use Rattle.ringcheck.specs.declared.refusals.Halt.{Halt}
 pub use Rattle.ringcheck_files.specs.LoaderRelation.{Relation, file_limit, in_folder, within}

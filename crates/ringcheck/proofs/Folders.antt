@@ -1,5 +1,5 @@
 -- What a status says of a request, of a loader whose names are taken from a folder, and where no folder could be entered.
-use Rattle.ringcheck.proofs.Common.{Bool, true, false, ℕ, List, [], ◌∷◌, Option, Some, None, Result, Ok, Err, inl, inr, refl, GridRules, Reason, Profile, Status, Relation, Written, parse_check, parse_draw, parse_measure, profile_of, Checks, IsParsedCheckStatus, IsParsedDrawStatus, PrintsPicture, IsParsedMeasureStatus, PrintsMeasure, measure_style, IsParsedReportStatus, IsWaivingReportStatus, IsExitOf, IsRequestStatus, word_bytes, ReportFormat}
+use Rattle.ringcheck.proofs.Common.{Bool, true, false, ℕ, List, [], ◌∷◌, Option, Some, None, Result, Ok, Err, inl, inr, refl, GridRules, Reason, Profile, Status, Relation, Written, parse_check, parse_draw, parse_measure, profile_of, Checks, IsParsedCheckStatus, IsDrawStatus, IsParsedDrawStatus, PrintsPicture, IsParsedMeasureStatus, PrintsMeasure, measure_style, IsParsedReportStatus, IsWaivingReportStatus, IsExitOf, IsRequestStatus, word_bytes, ReportFormat}
 use Rattle.command_line.specs.declared.Request.{Request}
 use Rattle.command_line.specs.declared.Request.TheVariants.{Check, Measure, Report, Draw, Show, Rewrite, Manifest, Explain}
 use Rattle.ringcheck_files.specs.declared.Status.TheVariants as status
@@ -13,7 +13,7 @@ use Rattle.ringcheck.specs.Sentences.{measure_sentence, profile_sentence}
 use Rattle.ringcheck.specs.ShowStatus.{IsParsedShowStatus}
 use Rattle.ringcheck.specs.declared.parsed_words.MeasureOrder.{MeasureOrder}
 use Rattle.ringcheck.specs.declared.refusals.RefusalStyle.TheVariants as style
-use Rattle.ringcheck.proofs.Outcomes.{outlined_along, says_along}
+use Rattle.ringcheck.proofs.Outcomes.{outlined_along, report_outlined_along, says_along}
 
 -- ---- a loader that has no more, and one that has more
 
@@ -38,20 +38,18 @@ module _ (later has : List ℕ → List ℕ → Type 0) (to : (n b : List ℕ) �
 
   draw_along : (name : List ℕ) (parsed : Result (Profile × Option GridRules) Reason) (sentence : List ℕ) (outline : Option (List ℕ)) (s : Status) → IsParsedDrawStatus later name parsed sentence outline before after s
       → IsParsedDrawStatus has name parsed sentence outline before after s
-  draw_along name (Ok (profile, rules)) sentence None s h = says_along later has to profile name (PrintsPicture rules [] before.0 after.0) style.Line before after s h
-  draw_along name (Ok (profile, rules)) sentence (Some file) s (inl (is, (why, (text, had, refused), printed, silent))) = inl (is, (why, (text, to file text had, refused), printed, silent))
-  draw_along name (Ok (profile, rules)) sentence (Some file) s (inr (inl is)) = inr (inl is)
-  draw_along name (Ok (profile, rules)) sentence (Some file) s (inr (inr (outline, (text, (had, short), reads), h))) =
-      inr (inr (outline, (text, (to file text had, short), reads), says_along later has to profile name (PrintsPicture rules outline before.0 after.0) style.Line before after s h))
+  draw_along name (Ok (profile, rules)) sentence outline s h =
+      outlined_along later has to (λ parts. IsDrawStatus later name profile rules parts before after) (λ parts. IsDrawStatus has name profile rules parts before after)
+      (λ parts. says_along later has to profile name (PrintsPicture rules parts before.0 after.0) style.Line before after) outline before after s h
   draw_along name (Err why) sentence outline s h = h
 
   waiving_along : (name : List ℕ) (rules : GridRules) (limit : Option ℕ) (form : ReportFormat) (waive outline : Option (List ℕ)) (s : Status)
       → IsWaivingReportStatus later name rules limit form waive outline before after s → IsWaivingReportStatus has name rules limit form waive outline before after s
-  waiving_along name rules limit form None outline s h = outlined_along later has to name rules limit form None outline before after s h
+  waiving_along name rules limit form None outline s h = report_outlined_along later has to name rules limit form None outline before after s h
   waiving_along name rules limit form (Some file) outline s (inl (is, (why, (text, had, refused), printed))) = inl (is, (why, (text, to file text had, refused), printed))
   waiving_along name rules limit form (Some file) outline s (inr (inl is)) = inr (inl is)
   waiving_along name rules limit form (Some file) outline s (inr (inr (waivers, (text, had, short, reads), h))) =
-      inr (inr (waivers, (text, to file text had, short, reads), outlined_along later has to name rules limit form (Some waivers) outline before after s h))
+      inr (inr (waivers, (text, to file text had, short, reads), report_outlined_along later has to name rules limit form (Some waivers) outline before after s h))
 
   report_along : (name : List ℕ) (parsed : Result (GridRules × Option ℕ × ReportFormat) Reason) (below : Bool) (sentence : List ℕ) (waive outline : Option (List ℕ)) (s : Status)
       → IsParsedReportStatus later name parsed below sentence waive outline before after s → IsParsedReportStatus has name parsed below sentence waive outline before after s

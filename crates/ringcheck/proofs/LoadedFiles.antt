@@ -4,10 +4,10 @@ use Rattle.std.proofs.Common.{slice_get}
 use Rattle.std.proofs.lemmas.List.Sums.{sum_by-cons}
 use Rattle.layer_features.specs.declared.keep.Keep.{Keep}
 use Rattle.package_check.specs.Holding as taking
-use Rattle.package_check.specs.Holding.{HasTaken, is_kind, setting_of as reader_setting}
+use Rattle.package_check.specs.Holding.{HasTaken, HasTakenAll, is_kind, setting_of as reader_setting}
 use Rattle.package_check.specs.declared.package_reader.PackageReader.{PackageReader}
 use Rattle.package_check.proofs.CheckSteps.{judged_alike, judged_all}
-use Rattle.package_check.proofs.TakeSteps.{all_below, none_below, none_more, one_more, or_none, or_together, taken_alike}
+use Rattle.package_check.proofs.TakeSteps.{all_below, all_taken, none_below, none_more, one_more, or_none, or_together, taken_alike}
 use Rattle.ringcheck.proofs.Outcomes.{risen_since}
 use Rattle.ringcheck.specs.declared.refusals.Halt.TheVariants as halt
 
@@ -244,7 +244,7 @@ risen_by old middle new a b (inr last) = elim (cases_lt middle new) [ inl more �
 pub halts_weaker : (Is Is' : Refusal → Type 0) (Risen Risen' : Type 0) → ((why : Refusal) → Is why → Is' why) → (Risen → Risen') → (h : Halt) → Halts Is Risen h → Halts Is' Risen' h
 halts_weaker Is Is' Risen Risen' to rise (halt.Refused what why) is = to (refusal what why) is
 halts_weaker Is Is' Risen Risen' to rise (halt.Archive what why name) is = to (of_archive name.now (refusal what why)) is
-halts_weaker Is Is' Risen Risen' to rise (halt.Unread what) risen = rise risen
+halts_weaker Is Is' Risen Risen' to rise (halt.Unread what path) risen = rise risen
 
 -- what halts a loader that has no more, by a count that rose since a later time, halts one that has more
 pub halts_since : (later has : List ℕ → List ℕ → Type 0) → ((n b : List ℕ) → later n b → has n b) → (index : ℕ) (entry : Entry) (old middle new : ℕ) → old ≤ middle → (h : Halt)
@@ -279,43 +279,38 @@ module _ (has : List ℕ → List ℕ → Type 0) (profile : Profile) (all : Lis
 
 -- ---- two passes
 
--- the drill files were loaded, and then the copper files
-pub both_passes : (has later : List ℕ → List ℕ → Type 0) → ((n b : List ℕ) → later n b ↔ has n b) → (profile : Profile) (all first : List Entry) (keep : Keep) (start middle last : PackageReader) (drills copper : ℕ) → AreFirstOf first all
-    → reader_setting start ≡ setting_in profile all → reader_setting middle ≡ reader_setting start → ((sources : List FileView) → HasTaken start keep sources (λ i. false))
-    → LoadsKind has all start middle false drills → LoadsKind later first middle last true copper → HasLoaded has profile all (HasTaken last keep) (done_to all drills copper)
-both_passes has later same profile all first keep start middle last drills copper among layers stays stands one two =
-    let done = λ (i : ℕ). false || (ltb i drills && is_kind_at false all i) in
-    let drilled : HasLoaded has profile all (HasTaken middle keep) done = one profile all keep (λ i. false) (λ i e at. at) layers (λ i kind. refl) (none_loaded has profile all (HasTaken start keep) stands) in
-    loaded_along later profile all has (λ n b. (same n b).0) (HasTaken last keep) (done_to all drills copper)
-    (two profile all keep done among (stays ∙ layers) (λ i kind. and_right (ltb i drills) (is_kind_at false all i) (one_entry_kind all i kind)) (loaded_along has profile all later (λ n b. (same n b).1) (HasTaken middle keep) done drilled))
+-- what came of all files, which a reader has taken in two passes: each was loaded, or one of them halts
+abbrev pub IsEnd : (List ℕ → List ℕ → Type 0) → Profile → List Entry → Keep → PackageReader → Type 0 → Option Halt → Type 0
+IsEnd has profile all keep last Risen None = (files : List (List ℕ)) × HasFiles (within file_limit has) all files × HasTakenAll last keep (sources profile all files)
+IsEnd has profile all keep last Risen (Some stop) = Halts (RefusedFile has profile all) Risen stop
 
-module _ (has later : List ℕ → List ℕ → Type 0) (to : (n b : List ℕ) → later n b → has n b) (profile : Profile) (all : List Entry) (Taken : List FileView → (ℕ → Bool) → Type 0) (drills copper old middle new : ℕ)
-    (rises : old ≤ middle) (rises_on : middle ≤ new) (inside : drills ≤ length all) (within_first : copper ≤ length (take drills all)) (h : HasLoaded has profile all Taken (done_to all drills copper)) where
+-- the drill files were loaded, and then the copper files among those before the first that cannot be
+module _ (has later : List ℕ → List ℕ → Type 0) (same : (n b : List ℕ) → later n b ↔ has n b) (profile : Profile) (all : List Entry) (keep : Keep) (start middle last : PackageReader) (drills copper old between new : ℕ)
+    (layers : reader_setting start ≡ setting_in profile all) (stays : reader_setting middle ≡ reader_setting start) (stands : (files : List FileView) → HasTaken start keep files (λ i. false)) (one : LoadsKind has all start middle false drills)
+    (two : LoadsKind later (take drills all) middle last true copper) (rises : old ≤ between) (rises_on : between ≤ new) (inside : drills ≤ length all) (within_first : copper ≤ length (take drills all)) where
+  both_loaded : HasLoaded has profile all (HasTaken last keep) (done_to all drills copper)
+  both_loaded =
+      let done = λ (i : ℕ). false || (ltb i drills && is_kind_at false all i) in
+      let drilled : HasLoaded has profile all (HasTaken middle keep) done = one profile all keep (λ i. false) (λ i e at. at) layers (λ i kind. refl) (none_loaded has profile all (HasTaken start keep) stands) in
+      loaded_along later profile all has (λ n b. (same n b).0) (HasTaken last keep) (done_to all drills copper)
+      (two profile all keep done (first_of drills all) (stays ∙ layers) (λ i kind. and_right (ltb i drills) (is_kind_at false all i) (one_entry_kind all i kind)) (loaded_along has profile all later (λ n b. (same n b).1) (HasTaken middle keep) done drilled))
+
   size : length (take drills all) ≡ drills
   size = length-take-le drills all inside
 
   below : copper ≤ drills
   below = omega (arith, size, within_first)
 
-  pub passes_halt : (first second : Option Halt) (stop : Halt) → EndsAt has all (HasRisen old middle) drills first → EndsAt later (take drills all) (HasRisen middle new) copper second → option_or second first ≡ Some stop
-      → Halts (RefusedFile has profile all) (HasRisen old new) stop
-  passes_halt first (Some s) stop before (entry, at, halts) is =
-      subst (Halts (RefusedFile has profile all) (HasRisen old new)) (same_Some s stop is)
-      (halts_weaker (RefusesLong later copper entry) (RefusedFile has profile all) (HasRisen middle new) (HasRisen old new)
-      (λ why long. long_refused has profile all Taken drills copper below h later to entry why (first_of drills all copper entry at) long) (risen_since old middle new rises) s halts)
-  passes_halt (Some s) None stop (entry, at, halts) ends is =
-      let same : drills ≡ copper = sym (ends ∙ size) in
-      subst (Halts (RefusedFile has profile all) (HasRisen old new)) (same_Some s stop is)
-      (halts_weaker (RefusesLong has drills entry) (RefusedFile has profile all) (HasRisen old middle) (HasRisen old new)
-      (λ why long. long_refused has profile all Taken drills copper below h has (λ n b held. held) entry why (subst (λ (k : ℕ). slice_get all k ≡ Some entry) same at)
-      (subst (λ (k : ℕ). RefusesLong has k entry why) same long)) (risen_by old middle new rises rises_on) s halts)
-  passes_halt None None stop before ends is = absurd (none-some stop is)
-
-  pub passes_all : (All : List FileView → Type 0) → ((files : List FileView) (p : ℕ → Bool) → ((i : ℕ) → i < length files → p i ≡ true) → Taken files p → All files) → (first second : Option Halt) → EndsAt has all (HasRisen old middle) drills first → EndsAt later (take drills all) (HasRisen middle new) copper second → option_or second first ≡ None
-      → (files : List (List ℕ)) × HasFiles (within file_limit has) all files × All (sources profile all files)
-  passes_all All to first (Some s) before ends is = absurd cc
-  passes_all All to (Some s) None before ends is = absurd cc
-  passes_all All to None None before ends is = all_loaded has profile all Taken drills copper below h All to (omega (arith, before, ends, size))
+  pub passes_end : (first second : Option Halt) → EndsAt has all (HasRisen old between) drills first → EndsAt later (take drills all) (HasRisen between new) copper second → IsEnd has profile all keep last (HasRisen old new) (option_or second first)
+  passes_end first (Some s) before (entry, at, halts) =
+      halts_weaker (RefusesLong later copper entry) (RefusedFile has profile all) (HasRisen between new) (HasRisen old new)
+      (λ why long. long_refused has profile all (HasTaken last keep) drills copper below both_loaded later (λ n b. (same n b).0) entry why (first_of drills all copper entry at) long) (risen_since old between new rises) s halts
+  passes_end (Some s) None (entry, at, halts) ends =
+      let here : drills ≡ copper = sym (ends ∙ size) in
+      halts_weaker (RefusesLong has drills entry) (RefusedFile has profile all) (HasRisen old between) (HasRisen old new)
+      (λ why long. long_refused has profile all (HasTaken last keep) drills copper below both_loaded has (λ n b held. held) entry why (subst (λ (k : ℕ). slice_get all k ≡ Some entry) here at)
+      (subst (λ (k : ℕ). RefusesLong has k entry why) here long)) (risen_by old between new rises rises_on) s halts
+  passes_end None None before ends = all_loaded has profile all (HasTaken last keep) drills copper below both_loaded (HasTakenAll last keep) (all_taken last keep) (omega (arith, before, ends, size))
 
 -- the first of two halts, where there is the second
 pub or_default : (o : Option Halt) (h : Halt) → option_or o (Some h) ≡ Some (unwrap_or o h)

@@ -1,5 +1,5 @@
 -- What a status says of the picture of a package.
-use Rattle.std.specs.Prelude.{◌≡◌, ◌⊎◌, ℕ, Bool, true, false, List, [], map, Option, None, Some, Result, Ok, Err}
+use Rattle.std.specs.Prelude.{◌≡◌, ℕ, Bool, true, false, List, [], map, Option, Some, Result, Ok, Err}
 use Rattle.std.specs.Io.KnownBytes.{Appends}
 use Rattle.grid_units.specs.Holes.{GridRules}
 use Rattle.grid_units.specs.declared.profile.Profile.{Profile}
@@ -11,10 +11,9 @@ use Rattle.package_check.specs.Boards.{IsDrawnBoard}
 use Rattle.package_check.specs.Package.{FileView}
 use Rattle.package_check.specs.Soundness.{IsSound}
 use Rattle.ringcheck_files.specs.declared.Status.{Status}
-use Rattle.ringcheck_files.specs.declared.Status.TheVariants as status
 use Rattle.ringcheck.specs.declared.refusals.RefusalStyle.TheVariants as style
 use Rattle.ringcheck.specs.CheckStatus.{SaysPackage}
-use Rattle.ringcheck.specs.Outlining.{HasOutline, PrintsOutlineRefusal}
+use Rattle.ringcheck.specs.Outlining.{IsOutlinedStatus}
 use Rattle.ringcheck_files.specs.LoaderRelation.{Relation}
 use Rattle.ringcheck_files.specs.Words.{IsExplainedUsage}
 use Rattle.ringcheck_files.specs.Writers.{Written}
@@ -32,18 +31,10 @@ pub record PrintsPicture (rules : Option GridRules) (outline : List Drawn) (befo
 
 -- what a status says of the picture of a package, read in a profile, with an outline of these parts; it is never Findings
 abbrev pub IsDrawStatus : Relation → List ℕ → Profile → Option GridRules → List Drawn → Written → Written → Status → Type 0
-IsDrawStatus has name profile rules outline before after s = SaysPackage has profile name (PrintsPicture rules outline before.0 after.0) style.Line before after s
-
--- what a status says of a picture for which the file of an outline may be named: without one the picture has no outline; with one that
--- file is refused, or the status is Device, or the file has an outline and the picture is made with it
-abbrev pub IsOutlinedDrawStatus : Relation → List ℕ → Profile → Option GridRules → Option (List ℕ) → Written → Written → Status → Type 0
-IsOutlinedDrawStatus has name profile rules None before after s = IsDrawStatus has name profile rules [] before after s
-IsOutlinedDrawStatus has name profile rules (Some file) before after s =
-    ((s ≡ status.Refused) × PrintsOutlineRefusal has file before after)
-    ⊎ ((s ≡ status.Device) ⊎ ((outline : List Drawn) × HasOutline has file outline × IsDrawStatus has name profile rules outline before after s))
+IsDrawStatus has name profile rules outline before after = SaysPackage has profile name (PrintsPicture rules outline before.0 after.0) style.Line before after
 
 -- what a status says of a picture in the profile and under the rules that words name, or where these are refused, and beside the line
 -- this sentence says why; `outline` is the file of an outline, if there is one
 abbrev pub IsParsedDrawStatus : Relation → List ℕ → Result (Profile × Option GridRules) Reason → List ℕ → Option (List ℕ) → Written → Written → Status → Type 0
-IsParsedDrawStatus has name (Ok (profile, rules)) sentence outline before after s = IsOutlinedDrawStatus has name profile rules outline before after s
+IsParsedDrawStatus has name (Ok (profile, rules)) sentence outline before after s = IsOutlinedStatus has outline (λ parts. IsDrawStatus has name profile rules parts before after) before after s
 IsParsedDrawStatus has name (Err why) sentence outline before after s = IsExplainedUsage false why sentence before after s

@@ -3,4 +3,3 @@ pub mod Halting
 pub mod Jobs
 pub mod Loading
 pub mod Outlines
-pub mod Reporting

@@ -1,5 +1,5 @@
 -- The outline of a board that a loader has under a name, or why it is refused (docs/FORMATS.md, The program).
-use Rattle.std.specs.Prelude.{◌≡◌, ◌<◌, ◌≤◌, ◌⊎◌, ◌++◌, ◌∷◌, [], ℕ, List, Result, Ok, Err, codes, decimal, length}
+use Rattle.std.specs.Prelude.{◌≡◌, ◌<◌, ◌≤◌, ◌⊎◌, ◌++◌, ◌∷◌, [], ℕ, List, Option, Some, None, Result, Ok, Err, codes, decimal, length}
 use Rattle.std.specs.Io.KnownBytes.{Appends}
 use Rattle.grid_units.specs.Ascii as ascii
 use Rattle.grid_units.specs.Reasons.{reason_name}
@@ -10,6 +10,8 @@ use Rattle.pad_shapes.specs.declared.drawn.Drawn.{Drawn}
 use Rattle.package_check.specs.FileTexts.{Draws}
 use Rattle.ringcheck_files.specs.LoaderRelation.{Relation, file_limit, too_long, within}
 use Rattle.ringcheck_files.specs.Writers.{IsSilent, Written}
+use Rattle.ringcheck_files.specs.declared.Status.{Status}
+use Rattle.ringcheck_files.specs.declared.Status.TheVariants as status
 
 -- in the strict profile a text is that of a layer, which draws these parts; or it has this fault
 abbrev pub ReadsOutline : List ℕ → Result (List Drawn) Fault → Type 0
@@ -36,3 +38,10 @@ outline_line why =
 -- a file of an outline is refused, and just the line of the refusal was written
 abbrev pub PrintsOutlineRefusal : Relation → List ℕ → Written → Written → Type 0
 PrintsOutlineRefusal has file before after = (why : Fault) × RefusedOutline has file why × Appends before.0 after.0 (outline_line why) × IsSilent before after
+
+-- what a status says where the file of an outline may be named, and `Says` says it of an outline: without a file this has no parts; with one
+-- that file is refused, or the status is Device, or the file has an outline
+abbrev pub IsOutlinedStatus : Relation → Option (List ℕ) → (List Drawn → Status → Type 0) → Written → Written → Status → Type 0
+IsOutlinedStatus has None Says before after s = Says [] s
+IsOutlinedStatus has (Some file) Says before after s =
+    ((s ≡ status.Refused) × PrintsOutlineRefusal has file before after) ⊎ ((s ≡ status.Device) ⊎ ((outline : List Drawn) × HasOutline has file outline × Says outline s))

@@ -1,5 +1,6 @@
 -- The rules, the profile, the limit of findings and the format that words of the command line name (docs/FORMATS.md, The program).
-use Rattle.std.specs.Prelude.{ℕ, ℤ, pos, Bool, ◌&&◌, not, is_some, List, Option, Some, None, Result, Ok, Err, length, codes, nat_le, unsigned_abs, int_le, if◌then◌else◌}
+use Rattle.std.specs.Prelude.{ℕ, ℤ, pos, Bool, ◌&&◌, not, is_some, List, Option, Some, None, Result, Ok, Err, length, codes, option_map, nat_le, unsigned_abs, int_le, if◌then◌else◌}
+use Rattle.std.specs.Borrow.{Bor}
 use Rattle.std.specs.Str.{bytes_eq}
 use Rattle.grid_units.specs.declared.fault.Reason.{Reason}
 use Rattle.grid_units.specs.declared.fault.Reason.TheVariants.{BadNumber, BadRole, BadRule}
@@ -15,6 +16,10 @@ use Rattle.ringcheck.specs.declared.parsed_words.MeasureFormat.TheVariants as me
 use Rattle.ringcheck.specs.declared.parsed_words.MeasureOrder.{MeasureOrder}
 use Rattle.ringcheck.specs.declared.parsed_words.ReportFormat.{ReportFormat}
 use Rattle.ringcheck.specs.declared.parsed_words.ReportFormat.TheVariants as format
+
+-- the bytes of a word that may be left out
+abbrev pub word_bytes : Option (Bor (List ℕ)) → Option (List ℕ)
+word_bytes word = option_map (λ w. w.now) word
 
 -- the length in pm of a word in millimetres, such as `0.125`, or why it has none: BadNumber, TooFine or TooFar
 unfoldable pub parse_length : List ℕ → Result ℤ Reason

@@ -32,7 +32,7 @@ use Rattle.ringcheck_files.specs.LoaderRelation.{Relation}
 use Rattle.ringcheck_files.specs.Words.{IsExplainedUsage}
 use Rattle.ringcheck_files.specs.Writers.{Written}
 use Rattle.ringcheck.specs.CheckStatus.{SaysPackage}
-use Rattle.ringcheck.specs.Outlining.{HasOutline, PrintsOutlineRefusal}
+use Rattle.ringcheck.specs.Outlining.{IsOutlinedStatus}
 use Rattle.ringcheck.specs.Waiving.{HasWaivers, RefusedWaivers}
 use Rattle.waivers.specs.Findings.{findings_text}
 use Rattle.waivers.specs.Waiving.{AreReasons, IsWaived, are_all_waived}
@@ -116,21 +116,13 @@ PrintsWaiversRefusal has file refusal_style before after = (why : Refusal) × Re
 abbrev pub IsReportStatus : Relation → List ℕ → GridRules → Option ℕ → ReportFormat → Option (List Waiver) → List Drawn → Written → Written → Status → Type 0
 IsReportStatus has name rules limit form waivers outline before after s = SaysPackage has rules.profile name (Reports name rules limit form waivers outline before.0 after.0) (report_style form) before after s
 
--- what a status says of a report for which the file of an outline may be named: that file is refused, or the status is Device, or the file
--- has an outline and the report is made with it
-abbrev pub IsOutlinedReportStatus : Relation → List ℕ → GridRules → Option ℕ → ReportFormat → Option (List Waiver) → Option (List ℕ) → Written → Written → Status → Type 0
-IsOutlinedReportStatus has name rules limit form waivers None before after s = IsReportStatus has name rules limit form waivers [] before after s
-IsOutlinedReportStatus has name rules limit form waivers (Some file) before after s =
-    ((s ≡ status.Refused) × PrintsOutlineRefusal has file before after)
-    ⊎ ((s ≡ status.Device) ⊎ ((outline : List Drawn) × HasOutline has file outline × IsReportStatus has name rules limit form waivers outline before after s))
-
 -- what a status says of a report for which a file of waivers may be named: that file is refused, or the status is Device,
 -- or the file has waivers and the report is made with them; `outline` is the file of an outline, if there is one
 abbrev pub IsWaivingReportStatus : Relation → List ℕ → GridRules → Option ℕ → ReportFormat → Option (List ℕ) → Option (List ℕ) → Written → Written → Status → Type 0
-IsWaivingReportStatus has name rules limit form None outline before after s = IsOutlinedReportStatus has name rules limit form None outline before after s
+IsWaivingReportStatus has name rules limit form None outline before after s = IsOutlinedStatus has outline (λ parts. IsReportStatus has name rules limit form None parts before after) before after s
 IsWaivingReportStatus has name rules limit form (Some file) outline before after s =
     ((s ≡ status.Refused) × PrintsWaiversRefusal has file (report_style form) before after)
-    ⊎ ((s ≡ status.Device) ⊎ ((waivers : List Waiver) × HasWaivers has file waivers × IsOutlinedReportStatus has name rules limit form (Some waivers) outline before after s))
+    ⊎ ((s ≡ status.Device) ⊎ ((waivers : List Waiver) × HasWaivers has file waivers × IsOutlinedStatus has outline (λ parts. IsReportStatus has name rules limit form (Some waivers) parts before after) before after s))
 
 -- what a status says of a report with the rules, the limit and the format that words name, or where these are refused and this sentence
 -- says why, below their line or, if not `below`, beside it; `waive` is the file of waivers, and `outline` that of an outline, if there is one

@@ -1,6 +1,5 @@
 -- What a status says of a request of the command line, and of any words (docs/FORMATS.md, The program).
-use Rattle.std.specs.Prelude.{◌≡◌, ◌++◌, ◌⊎◌, ℕ, Bool, true, false, List, Option, Result, Ok, Err, codes, is_some, map, option_map}
-use Rattle.std.specs.Borrow.{Bor}
+use Rattle.std.specs.Prelude.{◌≡◌, ◌++◌, ◌⊎◌, ℕ, Bool, true, false, List, Option, Result, Ok, Err, codes, is_some, map}
 use Rattle.std.specs.Io.KnownBytes.{Appends}
 use Rattle.std.specs.String.{string_bytes}
 use Rattle.command_line.specs.ProgramArgs.{ParsesLine}
@@ -17,7 +16,7 @@ use Rattle.ringcheck.specs.DrawStatus.{IsParsedDrawStatus}
 use Rattle.ringcheck_files.specs.ManifestStatus.{IsExplainStatus}
 use Rattle.ringcheck.specs.ManifestStatus.{IsParsedManifestStatus}
 use Rattle.ringcheck.specs.MeasureStatus.{IsParsedMeasureStatus}
-use Rattle.ringcheck.specs.ParsedWords.{parse_check, parse_draw, parse_measure, parse_report, profile_of}
+use Rattle.ringcheck.specs.ParsedWords.{parse_check, parse_draw, parse_measure, parse_report, profile_of, word_bytes}
 use Rattle.ringcheck_files.specs.FileStatus.{IsParsedFileStatus, parse_kind}
 use Rattle.ringcheck.specs.ReportStatus.{IsParsedReportStatus}
 use Rattle.ringcheck.specs.CheckStatus.{IsParsedCheckStatus}
@@ -25,10 +24,6 @@ use Rattle.ringcheck.specs.Sentences.{check_sentence, draw_sentence, is_for_peop
 use Rattle.ringcheck.specs.ShowStatus.{IsParsedShowStatus}
 use Rattle.ringcheck_files.specs.LoaderRelation.{Relation, in_folder}
 use Rattle.ringcheck_files.specs.Writers.{IsSilent, IsSilentStatus, Written}
-
--- the bytes of a word that may be left out
-abbrev pub word_bytes : Option (Bor (List ℕ)) → Option (List ℕ)
-word_bytes word = option_map (λ w. w.now) word
 
 -- what a status says with the flag `--exit-zero` or without it: with it Pass stands for findings too, and there is no other
 abbrev pub IsExitOf : Bool → (Status → Type 0) → Status → Type 0

@@ -1,5 +1,5 @@
 -- What is said below the line of a refusal, in words: which word or file, why, and what to write instead (docs/FORMATS.md, The program).
-use Rattle.std.specs.Prelude.{◌+◌, ◌++◌, ◌∷◌, ◌&&◌, [], ℕ, ℤ, Bool, true, not, is_ok, List, Option, Some, None, Result, Ok, Err, codes, decimal, if◌then◌else◌, is_some, option_map}
+use Rattle.std.specs.Prelude.{◌+◌, ◌++◌, ◌∷◌, ◌&&◌, [], ℕ, ℤ, Bool, true, not, is_ok, List, Option, Some, None, Result, Ok, Err, codes, decimal, if◌then◌else◌, is_some}
 use Rattle.std.specs.Str.{bytes_eq}
 use Rattle.grid_units.specs.Ascii as ascii
 use Rattle.grid_units.specs.declared.fault.Reason.{Reason}
@@ -11,10 +11,10 @@ use Rattle.ringcheck_files.specs.Sentences.{place_of_names}
 use Rattle.ringcheck_files.specs.Words.{sentence_line}
 use Rattle.ringcheck.specs.declared.refusals.RefusalStyle.{RefusalStyle}
 use Rattle.ringcheck.specs.declared.refusals.RefusalStyle.TheVariants as style
-use Rattle.ringcheck.specs.declared.refusals.Sought.{Sought}
+use Rattle.ringcheck.specs.declared.refusals.UnreadWords.{UnreadWords}
 use Rattle.ringcheck.specs.declared.refusals.Subject.{Subject}
 use Rattle.ringcheck.specs.declared.refusals.Subject.TheVariants as subject
-use Rattle.ringcheck.specs.ParsedWords.{parse_length, parse_limit, parse_rules, profile_of}
+use Rattle.ringcheck.specs.ParsedWords.{parse_length, parse_limit, parse_rules, profile_of, word_bytes}
 
 -- ---- words
 
@@ -117,12 +117,12 @@ unread_json subject.Waivers = json_text waivers_device_value
 unread_json (subject.File index name) = json_text (device_value index name.now)
 
 -- what is said of something that cannot be read, which may be a folder
-abbrev pub unread_words : Subject → Sought → List ℕ
-unread_words what sought =
-    if sought.is_folder then found_folder_sentence what sought.path.now else unread_sentence what sought.path.now (option_map (λ f. f.now) sought.folder)
+abbrev pub unread_words : UnreadWords → List ℕ
+unread_words words =
+    if words.is_folder then found_folder_sentence words.subject words.path.now else unread_sentence words.subject words.path.now (word_bytes words.folder)
 
 -- the text of something that cannot be read, in a style: its line, this line with the sentence below it, or its JSON
-abbrev pub unread_text : RefusalStyle → Subject → Sought → List ℕ
-unread_text style.Line what sought = unread_line what
-unread_text style.Page what sought = unread_line what ++ sentence_line (unread_words what sought)
-unread_text style.Json what sought = unread_json what
+abbrev pub unread_text : RefusalStyle → UnreadWords → List ℕ
+unread_text style.Line words = unread_line words.subject
+unread_text style.Page words = unread_line words.subject ++ sentence_line (unread_words words)
+unread_text style.Json words = unread_json words.subject

@@ -1,48 +1,50 @@
-//! Checks a package.
+//! Checks a package, or draws it.
 
-ghost use Rattle.std.specs.Prelude.{◌≡◌, List, IfErr, IfOk, OnOk, map};
-ghost use Rattle.std.specs.Io.KnownBytes.{Appends};
+ghost use Rattle.std.specs.Prelude.{◌≡◌, List, IfOk, map};
 ghost use Rattle.grid_units.specs.Holes.{GridRules};
-ghost use Rattle.package_check.specs.Checking.{HasJudgedAll};
+ghost use Rattle.package_check.specs.Boards.{IsDrawnBoard};
 ghost use Rattle.package_check.specs.Package.{FileView};
-ghost use Rattle.package_check.specs.Texts.{text_of};
-ghost use Rattle.ringcheck.specs.Inner.Halting.{OfTaken};
+ghost use Rattle.ringcheck.specs.Inner.Loading.{IsCheckReport};
 ghost use Rattle.ringcheck.specs.CheckStatus.{Checks};
+ghost use Rattle.ringcheck.specs.DrawStatus.{PrintsPicture};
 ghost use Rattle.ringcheck.specs.RewrittenPackages.{RewritingKeepsAnswers};
 
-use crate::refusals::{Halt, refused};
-use crate::{CheckText, PackageFault, Report};
-use package_check::PackageCheck;
+use crate::{CheckText, Report};
+use drawing::Drawing;
+use grid_units::Rules;
+use package_check::Board;
+use package_check::laws::passing_is_sound;
+use pad_shapes::Drawn;
 use ringcheck_files::Failure;
+use std::alloc::Global;
 use std::io::Write;
 
-/// Prints the text of a report on files of these names.
-fn print<W: Write>(names: &[&str], report: &Report, out: &mut W) -> Result<(), Failure>
-    ensures { OnOk result (Appends (W.contents out.old) (W.contents out.new) (text_of (map (λ name. name.now) names.now) report.now)) }
+/// Prints the report of a check of the files of these names, and returns whether it has no finding.
+pub(crate) fn check<W: Write>(report: &Report, names: &[&str], out: &mut W) -> Result<bool, Failure>
+    ensures { (all : List FileView) (rules : GridRules) → map (λ name. name.now) names.now ≡ map (λ source. source.name) all → IsCheckReport rules report.now all
+        → IfOk result (λ passes. Checks rules (W.contents out.old) (W.contents out.new) passes all) }
 {
     write!(out, "{}", CheckText { names, report })?;
-    Ok(())
+    Ok(report.findings().is_empty())
 }
 
-/// Prints the report of a check that has taken the files of these names, and returns whether it has no finding.
-pub(crate) fn check<'a, W: Write>(
-    check: PackageCheck,
-    names: &[&'a str],
+/// Prints the picture of the board of the files of these names, with an outline of these parts and what is found under the rules, if there
+/// are any. It always passes.
+pub(crate) fn draw<W: Write>(
+    alloc: Global,
+    board: &Board,
+    names: &[&str],
+    rules: Option<Rules>,
+    outline: &[Drawn],
     out: &mut W,
-) -> Result<Result<bool, Halt<'a>>, Failure>
-    ensures answers { (all : List FileView) (rules : GridRules) → map (λ name. name.now) names.now ≡ map (λ source. source.name) all → HasJudgedAll check all rules
-        → IfOk result (OfTaken (Checks rules (W.contents out.old) (W.contents out.new)) all) }
-    ensures silent { IfOk result (λ done. IfErr done (λ h. W.contents out.new ≡ W.contents out.old)) }
+) -> Result<bool, Failure>
+    ensures { (all : List FileView) → map (λ name. name.now) names.now ≡ map (λ source. source.name) all → IsDrawnBoard all board.now
+        → IfOk result (λ passes. PrintsPicture rules outline.now (W.contents out.old) (W.contents out.new) passes all) }
 {
-    let report = match check.finish() {
-        Ok(report) => report,
-        Err(PackageFault::Memory) => return Err(Failure::Memory),
-        Err(PackageFault::File { index, fault }) => {
-            return Ok(Err(refused(names, index, fault)));
-        }
-    };
-    print(names, &report, out)?;
-    Ok(Ok(report.findings().is_empty()))
+    passing_is_sound();
+    let drawing = Drawing::new(alloc, names, board, outline, rules)?;
+    write!(out, "{drawing}")?;
+    Ok(true)
 }
 
 /// A package in which any files are rewritten, each by the kind of text of its role, has the same answer in each profile. Mixed files, and in

@@ -2,14 +2,12 @@
 
 ghost use Rattle.std.specs.Prelude.{◌≡◌};
 ghost use Rattle.ringcheck.specs.Inner.Jobs.{job_profile, job_style};
-ghost use Rattle.ringcheck.specs.MeasureStatus.{measure_style};
 ghost use Rattle.ringcheck.specs.ReportStatus.{kept_for, report_style};
 
 use crate::parsed_words::{MeasureFormat, MeasureOrder, ReportFormat};
 use crate::refusals::RefusalStyle;
 use grid_units::{Profile, Rules};
 use package_check::Keep;
-use pad_shapes::Drawn;
 use waivers::Waiver;
 
 /// What a report is asked for.
@@ -22,19 +20,6 @@ pub(crate) struct Order {
     pub(crate) format: ReportFormat,
     /// The waivers of the file that was named, if one was named.
     pub(crate) waivers: Option<Vec<Waiver>>,
-    /// What the file of the board's outline draws; nothing where none was named.
-    pub(crate) outline: Vec<Drawn>,
-}
-
-/// What a picture is asked for.
-#[derive(Drop)]
-pub(crate) struct PictureOrder {
-    /// The profile in which the files are read.
-    pub(crate) profile: Profile,
-    /// The ring and the gap under which findings are drawn, in pm, if there are any.
-    pub(crate) rules: Option<Rules>,
-    /// What the file of the board's outline draws; nothing where none was named.
-    pub(crate) outline: Vec<Drawn>,
 }
 
 /// What is done with a package.
@@ -46,18 +31,8 @@ pub(crate) enum Job {
     Measure(MeasureOrder),
     /// A report on its findings is printed.
     Report(Order),
-    /// Its picture is printed.
-    Draw(PictureOrder),
-}
-
-/// How a refusal is printed in place of a measure in this format.
-fn measure_style(format: MeasureFormat) -> RefusalStyle
-    ensures { result ≡ measure_style format }
-{
-    match format {
-        MeasureFormat::Text => RefusalStyle::Page,
-        MeasureFormat::Json => RefusalStyle::Json,
-    }
+    /// Its picture is printed: the files are read in this profile, and findings are drawn under these rules, if there are any.
+    Draw(Profile, Option<Rules>),
 }
 
 /// How a refusal is printed in place of a report in this format.
@@ -90,7 +65,7 @@ impl Job {
             Job::Check(rules) => rules.profile(),
             Job::Measure(order) => order.profile,
             Job::Report(options) => options.rules.profile(),
-            Job::Draw(order) => order.profile,
+            Job::Draw(profile, _) => *profile,
         }
     }
 
@@ -99,8 +74,11 @@ impl Job {
         ensures { result ≡ job_style self.now }
     {
         match self {
-            Job::Check(_) | Job::Draw(_) => RefusalStyle::Line,
-            Job::Measure(order) => measure_style(order.format),
+            Job::Check(_) | Job::Draw(..) => RefusalStyle::Line,
+            Job::Measure(order) => match order.format {
+                MeasureFormat::Text => RefusalStyle::Page,
+                MeasureFormat::Json => RefusalStyle::Json,
+            },
             Job::Report(options) => report_style(options.format),
         }
     }

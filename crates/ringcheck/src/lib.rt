@@ -2,7 +2,6 @@
 #![tactic(auto)]
 
 mod checks;
-mod drawings;
 mod jobs;
 mod load_package;
 mod measures;

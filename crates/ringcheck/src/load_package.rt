@@ -1,23 +1,22 @@
 //! The manifest, the waivers and the files of a package, from a loader.
 
-ghost use Rattle.std.specs.Prelude.{◌≡◌, ◌++◌, ◌≤◌, ◌↔◌, ℕ, List, length, true, IfOk, Result};
+ghost use Rattle.std.specs.Prelude.{◌≡◌, ◌++◌, ◌≤◌, ◌↔◌, ℕ, List, length, map, slice_get, true, IfOk, IfSome, Result, Some};
 ghost use Rattle.grid_units.specs.Results.{Answers};
 ghost use Rattle.grid_units.specs.declared.fault.Fault.{Fault as TheFault};
 ghost use Rattle.grid_units.specs.declared.profile.Profile.{Profile as TheProfile};
 ghost use Rattle.manifest.specs.Manifest.{manifest_in};
-ghost use Rattle.package_check.specs.Checking.{HasJudgedAll};
-ghost use Rattle.package_check.specs.Holding.{HasTakenAll, is_kind, setting_of};
+ghost use Rattle.package_check.specs.Holding.{is_kind, setting_of};
 ghost use Rattle.package_check.specs.Package.{is_copper};
 ghost use Rattle.ringcheck_files.specs.Outcomes.{HasRisen};
-ghost use Rattle.ringcheck.specs.Inner.Halting.{OfFiles, OfTable};
-ghost use Rattle.ringcheck.specs.Inner.Loading.{EndsAt, LoadsKind, OfCheckedCopper, OfCheckedFile, OfHandedFile, OfTakenFile, copper_entries};
+ghost use Rattle.ringcheck.specs.Inner.Halting.{IsOfPath, OfFiles, OfRead, OfTable};
+ghost use Rattle.ringcheck.specs.Inner.Loading.{EndsAt, IsCheckReport, IsKeptBoard, LoadsKind, OfCheckedCopper, OfCheckedFile, OfHandedFile, OfTakenFile, copper_entries};
 ghost use Rattle.waivers.specs.Reading.{waivers};
 
 use crate::refusals::{Halt, NoTable, Subject, refused_table};
-use crate::{Entry, LoadFault, Loader, PackageReader, Role};
+use crate::{Entry, LoadFault, Loader, PackageFault, PackageReader, Report, Role};
 use grid_units::{Fail, Profile, Rules};
 use manifest::read_manifest_in;
-use package_check::{Keep, OpenCopper, OpenFile, PackageCheck};
+use package_check::{Board, Keep, OpenCopper, OpenFile, PackageCheck};
 use ringcheck_files::{ABOVE_LIMIT, FILE_LIMIT, Failure, Sink};
 use std::alloc::{AllocError, Global};
 use waivers::{Waiver, read_waivers};
@@ -64,7 +63,6 @@ pub(crate) fn load_table<'a, L: Loader, R: Row + Drop>(
     subject: Subject<'a>,
 ) -> Result<Result<Vec<R>, NoTable<'a>>, Failure>
     ensures keeps { (n b : List ℕ) → L.has loader.new n b → L.has loader.old n b }
-    ensures kept { (n b : List ℕ) → L.has loader.old n b → L.has loader.new n b }
     ensures counts { L.failed loader.old ≤ L.failed loader.new }
     ensures loaded { IfOk result (OfTable (R.rows profile) (L.has loader.old) name.now subject.entry (HasRisen (L.failed loader.old) (L.failed loader.new))) }
 {
@@ -77,7 +75,7 @@ pub(crate) fn load_table<'a, L: Loader, R: Row + Drop>(
                 Ok(Err(no_table))
             }
         },
-        Err(LoadFault::Device) => Ok(Err(NoTable::Halted(Halt::Unread(subject)))),
+        Err(LoadFault::Device) => Ok(Err(NoTable::Halted(Halt::Unread(subject, name)))),
         Err(LoadFault::Memory) => Err(Failure::Memory),
         Err(LoadFault::TooLong) => Ok(Err(NoTable::Halted(Halt::Refused(subject, ABOVE_LIMIT)))),
     }
@@ -102,7 +100,8 @@ fn layer_count(entries: &[Entry]) -> usize
     entries.iter().filter(|entry| is_copper(entry.role)).count()
 }
 
-/// Hands the file of an entry at this index to a sink, piece by piece; or returns why it cannot be loaded.
+/// Hands the file of an entry at this index to a sink, piece by piece; or returns why it cannot be loaded. A file that cannot be read was
+/// looked for by its name on the disk.
 fn hand_file<'a, L: Loader, S: Sink>(
     alloc: Global,
     loader: &mut L,
@@ -112,13 +111,14 @@ fn hand_file<'a, L: Loader, S: Sink>(
 ) -> Result<Option<Halt<'a>>, Failure>
     ensures keeps { (n b : List ℕ) → L.has loader.new n b ↔ L.has loader.old n b }
     ensures counts { L.failed loader.old ≤ L.failed loader.new }
+    ensures path { IfOk result (λ halted. IfSome halted (IsOfPath entry.now.file)) }
     ensures loaded { IfOk result (OfHandedFile (L.has loader.old) index entry.now (λ bytes. (start : S) (text : List ℕ) → S.has_taken start sink.old text → S.has_taken start sink.new (text ++ bytes)) (HasRisen (L.failed loader.old) (L.failed loader.new))) }
 {
-    let name = entry.name.as_str();
+    let (name, path) = (entry.name.as_str(), entry.file.as_str());
     let file = Subject::File { index, name };
-    match loader.load_into(alloc, entry.file.as_str(), FILE_LIMIT, sink) {
+    match loader.load_into(alloc, path, FILE_LIMIT, sink) {
         Ok(()) => Ok(None),
-        Err(LoadFault::Device) => Ok(Some(Halt::Unread(file))),
+        Err(LoadFault::Device) => Ok(Some(Halt::Unread(file, path))),
         Err(LoadFault::Memory) => Err(Failure::Memory),
         Err(LoadFault::TooLong) => Ok(Some(Halt::Refused(file, ABOVE_LIMIT))),
     }
@@ -155,12 +155,15 @@ fn take_file<'a, L: Loader>(
 {
     let file = reader.begin(index, entry.role, entry.span);
     let mut sink = FileSink { file };
-    match hand_file(alloc, loader, index, entry, &mut sink)? {
-        None => {
+    match hand_file(alloc, loader, index, entry, &mut sink) {
+        Ok(None) => {
             reader.end(sink.file)?;
             Ok(None)
         }
-        Some(halt) => Ok(Some(halt)),
+        halted => {
+            drop(sink);
+            halted
+        }
     }
 }
 
@@ -204,27 +207,51 @@ fn take_kind<'a, L: Loader>(
     })
 }
 
-/// A reader that has taken the files of the entries in a profile, the drill files before the copper files, and keeps this of them. After a file
-/// that cannot be loaded only those before it are loaded: the answer is the first, in the order of the entries, that cannot be.
-pub(crate) fn take_files<'a, L: Loader>(
+/// The name of the file of the entry at an index, as the package has it; empty where there is none.
+fn name_at(entries: &[Entry], index: usize) -> &str
+    ensures { (name : List ℕ) → slice_get (map (λ entry. entry.name) entries.now) index ≡ Some name → result.now ≡ name }
+{
+    match entries.get(index) {
+        Some(entry) => entry.name.as_str(),
+        None => "",
+    }
+}
+
+/// What was read of the files of these entries, or the refusal of the first of them that is refused.
+fn read_of<'a, T>(
+    entries: &'a [Entry],
+    read: Result<T, PackageFault>,
+) -> Result<Result<T, Halt<'a>>, Failure>
+    ensures { IfOk result (OfRead entries.now read) }
+{
+    match read {
+        Ok(it) => Ok(Ok(it)),
+        Err(PackageFault::Memory) => Err(Failure::Memory),
+        Err(PackageFault::File { index, fault }) => {
+            let name = name_at(entries, index);
+            Ok(Err(Halt::Refused(Subject::File { index, name }, fault)))
+        }
+    }
+}
+
+/// The board of the files of the entries in a profile, with this kept of them. The drill files are loaded before the copper files. After a
+/// file that cannot be loaded only those before it are loaded: the answer is the first, in the order of the entries, that cannot be.
+pub(crate) fn load_board<'a, L: Loader>(
     alloc: Global,
     profile: Profile,
     keep: Keep,
     loader: &mut L,
     entries: &'a [Entry],
-) -> Result<Result<PackageReader, Halt<'a>>, Failure>
-    ensures keeps { (n b : List ℕ) → L.has loader.new n b → L.has loader.old n b }
-    ensures kept { (n b : List ℕ) → L.has loader.old n b → L.has loader.new n b }
-    ensures counts { L.failed loader.old ≤ L.failed loader.new }
-    ensures loaded { IfOk result (OfFiles (L.has loader.old) profile entries.now (HasRisen (L.failed loader.old) (L.failed loader.new)) (λ reader. HasTakenAll reader keep)) }
+) -> Result<Result<Board, Halt<'a>>, Failure>
+    ensures { IfOk result (OfFiles (L.has loader.old) profile entries.now (HasRisen (L.failed loader.old) (L.failed loader.new)) (IsKeptBoard keep)) }
 {
     let mut reader = PackageReader::keeping(alloc, layer_count(entries), profile, keep);
     let drills = take_kind(alloc, loader, entries, false, &mut reader)?;
     let copper = take_kind(alloc, loader, &entries[..drills.end], true, &mut reader)?;
-    match copper.halt.or(drills.halt) {
-        Some(halt) => Ok(Err(halt)),
-        None => Ok(Ok(reader)),
+    if let Some(halt) = copper.halt.or(drills.halt) {
+        return Ok(Err(halt));
     }
+    read_of(entries, reader.board())
 }
 
 /// A check, and its copper file that takes its bytes from a loader.
@@ -259,13 +286,20 @@ fn check_file<'a, L: Loader>(
 {
     let file = check.begin(index, layer, entry.span);
     let mut sink = CheckSink { check, file };
-    match hand_file(alloc, loader, index, entry, &mut sink)? {
-        None => {
+    match hand_file(alloc, loader, index, entry, &mut sink) {
+        Ok(None) => {
             let CheckSink { mut check, file } = sink;
             check.end(file)?;
             Ok(Ok(check))
         }
-        Some(halt) => Ok(Err(halt)),
+        Ok(Some(halt)) => {
+            drop(sink);
+            Ok(Err(halt))
+        }
+        Err(failure) => {
+            drop(sink);
+            Err(failure)
+        }
     }
 }
 
@@ -293,15 +327,15 @@ fn check_copper<'a, L: Loader>(
     Ok(Ok(check))
 }
 
-/// A check that has taken the files of the entries in the profile of its rules, the drill files before the copper files. As in
-/// [`take_files`], the first file that cannot be loaded is the answer.
+/// The report of a check of the files of the entries in the profile of its rules, the drill files before the copper files. As in
+/// [`load_board`], the first file that cannot be loaded is the answer.
 pub(crate) fn check_files<'a, L: Loader>(
     alloc: Global,
     rules: Rules,
     loader: &mut L,
     entries: &'a [Entry],
-) -> Result<Result<PackageCheck, Halt<'a>>, Failure>
-    ensures { IfOk result (OfFiles (L.has loader.old) rules.profile entries.now (HasRisen (L.failed loader.old) (L.failed loader.new)) (λ check all. HasJudgedAll check all rules)) }
+) -> Result<Result<Report, Halt<'a>>, Failure>
+    ensures { IfOk result (OfFiles (L.has loader.old) rules.profile entries.now (HasRisen (L.failed loader.old) (L.failed loader.new)) (IsCheckReport rules)) }
 {
     let mut reader = PackageReader::new(alloc, layer_count(entries), rules.profile());
     let drills = take_kind(alloc, loader, entries, false, &mut reader)?;
@@ -310,5 +344,8 @@ pub(crate) fn check_files<'a, L: Loader>(
         return Ok(Err(before.halt.unwrap_or(halt)));
     }
     let check = reader.checking(rules)?;
-    check_copper(alloc, loader, entries, check)
+    match check_copper(alloc, loader, entries, check)? {
+        Ok(check) => read_of(entries, check.finish()),
+        Err(halt) => Ok(Err(halt)),
+    }
 }

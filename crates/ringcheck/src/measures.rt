@@ -1,16 +1,12 @@
 //! Measures a package: by how much it meets its rules.
 
-ghost use Rattle.std.specs.Prelude.{◌≡◌, List, Some, IfErr, IfOk, OnOk, map};
+ghost use Rattle.std.specs.Prelude.{◌≡◌, List, Some, IfOk, OnOk, map};
 ghost use Rattle.std.specs.Io.KnownBytes.{Appends};
-ghost use Rattle.layer_features.specs.declared.keep.Keep.TheVariants as keep;
-ghost use Rattle.package_check.specs.Holding.{HasTakenAll};
+ghost use Rattle.package_check.specs.Boards.{IsBoard};
 ghost use Rattle.package_check.specs.Package.{FileView};
-ghost use Rattle.ringcheck.specs.Inner.Halting.{OfTaken};
 ghost use Rattle.ringcheck.specs.MeasureStatus.{PrintsMeasure, measure_page, profile_line};
 
 use crate::parsed_words::{MeasureFormat, MeasureOrder};
-use crate::refusals::{Halt, refused};
-use crate::{PackageFault, PackageReader};
 use board_report::measure_board;
 use grid_units::Profile;
 use package_check::laws::measured_passes;
@@ -73,27 +69,19 @@ fn print<W: Write>(
     Ok(())
 }
 
-/// Measures the files of these names, which a reader has taken in the profile that is asked for, and prints the measure.
-pub(crate) fn measure<'a, W: Write>(
+/// Measures the board of the files of these names in the profile that is asked for, and prints the measure. It always passes.
+pub(crate) fn measure<W: Write>(
     alloc: Global,
-    reader: PackageReader,
-    names: &[&'a str],
+    board: &Board,
+    names: &[&str],
     order: MeasureOrder,
     out: &mut W,
-) -> Result<Result<bool, Halt<'a>>, Failure>
-    ensures answers { (all : List FileView) → map (λ name. name.now) names.now ≡ map (λ source. source.name) all → HasTakenAll reader keep.Pads all
-        → IfOk result (OfTaken (PrintsMeasure order (W.contents out.old) (W.contents out.new)) all) }
-    ensures silent { IfOk result (λ done. IfErr done (λ h. W.contents out.new ≡ W.contents out.old)) }
+) -> Result<bool, Failure>
+    ensures { (all : List FileView) → map (λ name. name.now) names.now ≡ map (λ source. source.name) all → IsBoard all board.now
+        → IfOk result (λ passes. PrintsMeasure order (W.contents out.old) (W.contents out.new) passes all) }
 {
     measured_passes();
-    let board = match reader.board() {
-        Ok(board) => board,
-        Err(PackageFault::Memory) => return Err(Failure::Memory),
-        Err(PackageFault::File { index, fault }) => {
-            return Ok(Err(refused(names, index, fault)));
-        }
-    };
-    let measure = measure_board(alloc, &board, order.profile)?;
-    print(names, &board, &measure, order, out)?;
-    Ok(Ok(true))
+    let measure = measure_board(alloc, board, order.profile)?;
+    print(names, board, &measure, order, out)?;
+    Ok(true)
 }

@@ -1,18 +1,17 @@
 //! The outline of a board, from a loader, and what is printed where there is none.
 
-ghost use Rattle.std.specs.Prelude.{◌≤◌, ℕ, List, IfOk, Some};
+ghost use Rattle.std.specs.Prelude.{◌≤◌, ℕ, List, IfOk};
 ghost use Rattle.grid_units.specs.Results.{Answers};
 ghost use Rattle.ringcheck_files.specs.Outcomes.{HasRisen};
 ghost use Rattle.ringcheck.specs.Inner.Outlines.{AfterNoOutline, OfOutline};
-ghost use Rattle.ringcheck.specs.Outlining.{ReadsOutline, outline_line};
+ghost use Rattle.ringcheck.specs.Outlining.{ReadsOutline};
+ghost use Rattle.ringcheck.specs.ParsedWords.{word_bytes};
 
 use crate::{LoadFault, Loader};
 use grid_units::{Fail, Fault, Profile};
 use layer_image::{Drawn, Keep, LayerReader, strict_layers};
 use ringcheck_files::{ABOVE_LIMIT, FILE_LIMIT, Failure, Status};
 use std::alloc::Global;
-use std::fmt;
-use std::fmt::{Display, Formatter};
 use std::io::Write;
 
 /// Why there is no outline.
@@ -37,16 +36,19 @@ fn read_outline(alloc: Global, text: &[u8]) -> Result<Vec<Drawn>, Fail>
     Ok(drawn)
 }
 
-/// What the file of an outline draws, by its name, or why it cannot be drawn.
+/// What the file of an outline draws, by its name, or why it cannot be drawn; nothing where no file is named.
 pub(crate) fn load_outline<L: Loader>(
     alloc: Global,
     loader: &mut L,
-    file: &str,
+    file: Option<&str>,
 ) -> Result<Result<Vec<Drawn>, NoOutline>, Failure>
     ensures keeps { (n b : List ℕ) → L.has loader.new n b → L.has loader.old n b }
     ensures counts { L.failed loader.old ≤ L.failed loader.new }
-    ensures loaded { IfOk result (OfOutline (L.has loader.old) file.now (HasRisen (L.failed loader.old) (L.failed loader.new))) }
+    ensures loaded { IfOk result (OfOutline (L.has loader.old) (word_bytes file.entry) (HasRisen (L.failed loader.old) (L.failed loader.new))) }
 {
+    let Some(file) = file else {
+        return Ok(Ok(Vec::new(alloc)));
+    };
     match loader.load(alloc, file, FILE_LIMIT) {
         Ok(text) => match read_outline(alloc, text.as_slice()) {
             Ok(drawn) => Ok(Ok(drawn)),
@@ -59,30 +61,18 @@ pub(crate) fn load_outline<L: Loader>(
     }
 }
 
-/// The refusal of an outline as a line, such as `refused outline place=3 byte=22 reason=NoAperture`.
-#[derive(Clone, Copy)]
-struct OutlineLine(Fault);
-
-impl Display for OutlineLine {
-    ghost output = { λ line. Some (outline_line line.0) };
-
-    fn fmt<W: fmt::Write>(&self, f: &mut Formatter<W>) -> fmt::Result {
-        let reason = self.0.reason.name();
-        let (place, byte) = (self.0.place, self.0.byte);
-        write!(
-            f,
-            "refused outline place={place} byte={byte} reason={reason}\n"
-        )
-    }
-}
-
 /// Prints why there is no outline, and returns the status of the run.
 pub(crate) fn print_no_outline<W: Write>(out: &mut W, why: NoOutline) -> Result<Status, Failure>
     ensures { IfOk result (AfterNoOutline why (W.contents out.old) (W.contents out.new)) }
 {
     match why {
         NoOutline::Refused(fault) => {
-            write!(out, "{}", OutlineLine(fault))?;
+            let reason = fault.reason.name();
+            let (place, byte) = (fault.place, fault.byte);
+            write!(
+                out,
+                "refused outline place={place} byte={byte} reason={reason}\n"
+            )?;
             Ok(Status::Refused)
         }
         NoOutline::Unread => {

@@ -1,8 +1,8 @@
 //! The rules, the profile, the limit of findings and the format that words of the command line name.
 
-ghost use Rattle.std.specs.Prelude.{◌≡◌, option_map};
+ghost use Rattle.std.specs.Prelude.{◌≡◌};
 ghost use Rattle.ringcheck.specs.ParsedWords as words;
-ghost use Rattle.ringcheck.specs.RequestStatus.{word_bytes};
+ghost use Rattle.ringcheck.specs.ParsedWords.{word_bytes};
 
 use command_line::{PictureWords, ReportWords};
 use grid_units::numbers::{capped_value, is_digits};
@@ -16,27 +16,20 @@ pub(crate) fn parse_length(word: &str) -> Result<i64, Reason>
     Dec::read(word.as_bytes())?.picometres(Unit::Millimetre)
 }
 
-#[tactic(auto, unfolding(crate::specs::ParsedWords::rules_of))]
-fn rules_of(ring: i64, gap: i64) -> Result<Rules, Reason>
-    ensures { result ≡ words.rules_of ring gap }
-{
-    Rules::new(ring, gap)
-}
-
 /// The rules of a ring and a gap in millimetres, in the strict profile. The ring is read first.
-#[tactic(auto, unfolding(crate::specs::ParsedWords::parse_rules))]
+#[tactic(auto, unfolding(crate::specs::ParsedWords::parse_rules, crate::specs::ParsedWords::rules_of))]
 pub(crate) fn parse_rules(ring: &str, gap: &str) -> Result<Rules, Reason>
     ensures { result ≡ words.parse_rules ring.now gap.now }
 {
     let ring = parse_length(ring)?;
     let gap = parse_length(gap)?;
-    rules_of(ring, gap)
+    Rules::new(ring, gap)
 }
 
 /// The profile that a word names, `strict` or `wide`; the strict one where there is no word, and none for any other.
 #[tactic(auto, unfolding(crate::specs::ParsedWords::profile_of))]
 pub(crate) fn profile_of(word: Option<&str>) -> Option<Profile>
-    ensures { result ≡ words.profile_of (option_map (λ w. w.now) word.entry) }
+    ensures { result ≡ words.profile_of (word_bytes word.entry) }
 {
     match word {
         None | Some("strict") => Some(Profile::Strict),
@@ -48,12 +41,10 @@ pub(crate) fn profile_of(word: Option<&str>) -> Option<Profile>
 /// The rules of a check, with a ring and a gap in millimetres. The profile is read first, and then the ring.
 #[tactic(auto, unfolding(crate::specs::ParsedWords::rules_in))]
 pub(crate) fn parse_check(profile: Option<&str>, ring: &str, gap: &str) -> Result<Rules, Reason>
-    ensures { result ≡ words.parse_check (option_map (λ w. w.now) profile.entry) ring.now gap.now }
+    ensures { result ≡ words.parse_check (word_bytes profile.entry) ring.now gap.now }
 {
-    match profile_of(profile) {
-        Some(profile) => Ok(parse_rules(ring, gap)?.in_profile(profile)),
-        None => Err(Reason::BadRole),
-    }
+    let profile = profile_of(profile).ok_or(Reason::BadRole)?;
+    Ok(parse_rules(ring, gap)?.in_profile(profile))
 }
 
 /// How a measure is printed.
@@ -93,7 +84,7 @@ fn parse_report_format(
     outlined: bool,
     word: Option<&str>,
 ) -> Result<ReportFormat, Reason>
-    ensures { result ≡ words.parse_report_format waives outlined (option_map (λ w. w.now) word.entry) }
+    ensures { result ≡ words.parse_report_format waives outlined (word_bytes word.entry) }
 {
     match word {
         Some("html") => Ok(ReportFormat::Html),
@@ -108,7 +99,7 @@ fn parse_report_format(
 /// The format of a measure that a word names, `text` or `json`; text where there is no word.
 #[tactic(auto, unfolding(crate::specs::ParsedWords::parse_format))]
 fn parse_format(word: Option<&str>) -> Result<MeasureFormat, Reason>
-    ensures { result ≡ words.parse_format (option_map (λ w. w.now) word.entry) }
+    ensures { result ≡ words.parse_format (word_bytes word.entry) }
 {
     match word {
         None | Some("text") => Ok(MeasureFormat::Text),
@@ -123,15 +114,11 @@ pub(crate) fn parse_measure(
     profile: Option<&str>,
     format: Option<&str>,
 ) -> Result<MeasureOrder, Reason>
-    ensures { result ≡ words.parse_measure (option_map (λ w. w.now) profile.entry) (option_map (λ w. w.now) format.entry) }
+    ensures { result ≡ words.parse_measure (word_bytes profile.entry) (word_bytes format.entry) }
 {
-    match profile_of(profile) {
-        Some(profile) => Ok(MeasureOrder {
-            profile,
-            format: parse_format(format)?,
-        }),
-        None => Err(Reason::BadRole),
-    }
+    let profile = profile_of(profile).ok_or(Reason::BadRole)?;
+    let format = parse_format(format)?;
+    Ok(MeasureOrder { profile, format })
 }
 
 /// The number that a word of one to nine digits names, such as `20`.
@@ -148,7 +135,7 @@ fn parse_count(word: &str) -> Result<usize, Reason>
 /// The most findings that a text shows; it shows all of them where there is no word.
 #[tactic(auto, unfolding(crate::specs::ParsedWords::parse_limit))]
 pub(crate) fn parse_limit(word: Option<&str>) -> Result<Option<usize>, Reason>
-    ensures { result ≡ words.parse_limit (option_map (λ w. w.now) word.entry) }
+    ensures { result ≡ words.parse_limit (word_bytes word.entry) }
 {
     match word {
         None => Ok(None),
@@ -161,7 +148,7 @@ pub(crate) fn parse_limit(word: Option<&str>) -> Result<Option<usize>, Reason>
 pub(crate) fn parse_report(
     unparsed: &ReportWords,
 ) -> Result<(Rules, Option<usize>, ReportFormat), Reason>
-    ensures { result ≡ words.parse_report (option_map (λ w. w.now) unparsed.now.profile) unparsed.now.ring.now unparsed.now.gap.now (option_map (λ w. w.now) unparsed.now.limit) (option_map (λ w. w.now) unparsed.now.waive) (option_map (λ w. w.now) unparsed.now.outline) (option_map (λ w. w.now) unparsed.now.format) }
+    ensures { result ≡ words.parse_report (word_bytes unparsed.now.profile) unparsed.now.ring.now unparsed.now.gap.now (word_bytes unparsed.now.limit) (word_bytes unparsed.now.waive) (word_bytes unparsed.now.outline) (word_bytes unparsed.now.format) }
 {
     let rules = parse_check(unparsed.profile, unparsed.ring, unparsed.gap)?;
     let limit = parse_limit(unparsed.limit)?;
@@ -177,7 +164,7 @@ fn drawn_under(
     ring: Option<&str>,
     gap: Option<&str>,
 ) -> Result<Option<Rules>, Reason>
-    ensures { result ≡ words.drawn_under profile (option_map (λ w. w.now) ring.entry) (option_map (λ w. w.now) gap.entry) }
+    ensures { result ≡ words.drawn_under profile (word_bytes ring.entry) (word_bytes gap.entry) }
 {
     match (ring, gap) {
         (None, None) => Ok(None),
@@ -191,8 +178,6 @@ fn drawn_under(
 pub(crate) fn parse_draw(unparsed: &PictureWords) -> Result<(Profile, Option<Rules>), Reason>
     ensures { result ≡ words.parse_draw (word_bytes unparsed.now.profile) (word_bytes unparsed.now.ring) (word_bytes unparsed.now.gap) }
 {
-    match profile_of(unparsed.profile) {
-        Some(profile) => Ok((profile, drawn_under(profile, unparsed.ring, unparsed.gap)?)),
-        None => Err(Reason::BadRole),
-    }
+    let profile = profile_of(unparsed.profile).ok_or(Reason::BadRole)?;
+    Ok((profile, drawn_under(profile, unparsed.ring, unparsed.gap)?))
 }

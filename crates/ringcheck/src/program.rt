@@ -4,7 +4,7 @@ ghost use Rattle.std.specs.Prelude.{◌≡◌, ◌++◌, ◌∷◌, ◌⊎◌, [
 ghost use Rattle.std.specs.Io.KnownBytes.{Appends};
 ghost use Rattle.command_line.specs.ProgramArgs.{are_plain_rules, are_plain_words, check_words, draw_words, explain_words, is_plain_if_some, is_plain_word, manifest_words, measure_words, report_words, rewrite_words, show_words};
 ghost use Rattle.ringcheck.specs.Inner.Exits.{exit_of};
-ghost use Rattle.ringcheck.specs.RequestStatus.{IsExitOf, IsLineStatus, IsProgramStatus, IsRequestStatus, word_bytes};
+ghost use Rattle.ringcheck.specs.RequestStatus.{IsExitOf, IsLineStatus, IsProgramStatus, IsRequestStatus};
 ghost use Rattle.ringcheck_files.specs.LoaderRelation.{in_folder};
 ghost use Rattle.ringcheck.specs.DrawStatus.{IsParsedDrawStatus};
 ghost use Rattle.ringcheck_files.specs.Outcomes.{HasCause};
@@ -12,6 +12,7 @@ ghost use Rattle.ringcheck_files.specs.ManifestStatus.{IsExplainStatus, IsVersio
 ghost use Rattle.ringcheck.specs.ManifestStatus.{IsParsedManifestStatus};
 ghost use Rattle.ringcheck.specs.MeasureStatus.{IsParsedMeasureStatus};
 ghost use Rattle.ringcheck.specs.ParsedWords as named;
+ghost use Rattle.ringcheck.specs.ParsedWords.{word_bytes};
 ghost use Rattle.ringcheck_files.specs.FileStatus.{IsParsedFileStatus, parse_kind};
 ghost use Rattle.ringcheck.specs.ReportStatus.{IsParsedReportStatus};
 ghost use Rattle.ringcheck.specs.CheckStatus.{IsParsedCheckStatus};
@@ -22,7 +23,7 @@ ghost use Rattle.ringcheck.specs.ShowStatus.{IsParsedShowStatus};
 use crate::packages::{check, draw, measure, report};
 use crate::tables::{manifest, show};
 use crate::{LoadFault, Loader};
-use command_line::{CommandLine, Refusal, ReportWords, Request, VERSION_LINE, parse};
+use command_line::{CommandLine, Refusal, Request, VERSION_LINE, parse};
 use ringcheck_files::{Failure, FileJob, Status, Streams, explain, print};
 use std::alloc::Global;
 use std::fmt;
@@ -37,24 +38,6 @@ fn exit_of(exit_zero: bool, status: Status) -> Status
         Status::Findings if exit_zero => Status::Pass,
         status => status,
     }
-}
-
-/// Prints the report that a request asks for, and returns its status by the flag `--exit-zero`.
-fn report_with_flag<L: Loader, W: Write, E: Write>(
-    alloc: Global,
-    options: &ReportWords,
-    manifest: &str,
-    loader: &mut L,
-    to: &mut Streams<W, E>,
-) -> Result<Status, Failure>
-    ensures says { IfOk result (IsExitOf options.now.exit_zero (IsParsedReportStatus (L.has loader.old) manifest.now
-        (named.parse_report (word_bytes options.now.profile) options.now.ring.now options.now.gap.now (word_bytes options.now.limit) (word_bytes options.now.waive) (word_bytes options.now.outline) (word_bytes options.now.format))
-        (is_for_people (word_bytes options.now.format)) (report_sentence (word_bytes options.now.profile) options.now.ring.now options.now.gap.now (word_bytes options.now.limit) (is_some (word_bytes options.now.outline)) (word_bytes options.now.format))
-        (word_bytes options.now.waive) (word_bytes options.now.outline) (texts W.contents E.contents to.old) (texts W.contents E.contents to.new))) }
-    ensures cause { IfOk result (HasCause (L.failed loader.old) (L.failed loader.new)) }
-{
-    let status = report(alloc, options, manifest, loader, to)?;
-    Ok(exit_of(options.exit_zero, status))
 }
 
 /// Does what a request asks for.
@@ -75,7 +58,8 @@ fn carry_out<L: Loader, W: Write, E: Write>(
             manifest,
         } => check(alloc, *profile, ring, gap, manifest, loader, to),
         Request::Report { options, manifest } => {
-            report_with_flag(alloc, options, manifest, loader, to)
+            let status = report(alloc, options, manifest, loader, to)?;
+            Ok(exit_of(options.exit_zero, status))
         }
         Request::Measure {
             profile,

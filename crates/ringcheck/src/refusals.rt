@@ -1,18 +1,17 @@
 //! Why nothing is done with a package, and what is printed of it. Files are numbered from 1.
 
-ghost use Rattle.std.specs.Prelude.{◌≡◌, ℕ, List, IfOk, OnOk, Some, map, option_map, slice_get};
+ghost use Rattle.std.specs.Prelude.{◌≡◌, IfOk, OnOk, Some, map, option_map, slice_get};
 ghost use Rattle.csv.specs.Records.{fields_of};
 ghost use Rattle.ringcheck_files.specs.PageWords.{FitsScreen, HasHeading};
 ghost use Rattle.grid_units.specs.Reasons.{reason_name};
-ghost use Rattle.package_check.specs.Package.{FileView, IsFirstRefused};
 ghost use Rattle.print_json.specs.Packages.{input_error_value};
 ghost use Rattle.print_json.specs.Values.{json_text};
 ghost use Rattle.ringcheck.specs.CheckStatus as tables;
-ghost use Rattle.ringcheck.specs.CheckStatus.{refusal_of_text, role_and_file_at, RefusedAmong};
-ghost use Rattle.ringcheck.specs.Inner.Halting.{AfterHalt, AfterNoTable, Halts, PrintsUnread, explained_refusal, is_role_of, refusal, refusal_of_table, refusal_sentence};
+ghost use Rattle.ringcheck.specs.CheckStatus.{refusal_of_text, role_and_file_at};
+ghost use Rattle.ringcheck.specs.Inner.Halting.{AfterHalt, AfterNoTable, explained_refusal, is_role_of, refusal, refusal_of_table, refusal_sentence};
 ghost use Rattle.ringcheck.specs.Refusals.{PrintsRefusal, WritesRefusal, beside, indented_lines, refusal_json, refusal_line};
 ghost use Rattle.ringcheck.specs.Refusals as wording;
-ghost use Rattle.ringcheck.specs.Sentences.{found_folder_sentence, unread_json, unread_line, unread_sentence, unread_text, unread_words};
+ghost use Rattle.ringcheck.specs.Sentences.{unread_json, unread_line, unread_text, unread_words};
 ghost use Rattle.ringcheck_files.specs.Words.{Says};
 ghost use Rattle.ringcheck_files.specs.Writers.{texts};
 ghost use Rattle.std.specs.Io.KnownBytes.{Appends};
@@ -58,19 +57,8 @@ pub(crate) enum Halt<'a> {
     Refused(Subject<'a>, Fault),
     /// This manifest or file of waivers is refused, with its fault: under this name is a zip archive.
     Archive(Subject<'a>, Fault, &'a str),
-    /// This cannot be read.
-    Unread(Subject<'a>),
-}
-
-/// How something was looked for that is not there.
-#[derive(Clone, Copy)]
-struct Sought<'a> {
-    /// The name by which it was looked for.
-    path: &'a str,
-    /// Whether a folder has this name, as far as the loader knows.
-    is_folder: bool,
-    /// The folder from which names are taken, if one was entered.
-    folder: Option<&'a str>,
+    /// This cannot be read, which was looked for by this name.
+    Unread(Subject<'a>, &'a str),
 }
 
 /// A record of a manifest that is refused for its role.
@@ -89,24 +77,6 @@ pub(crate) enum NoTable<'a> {
     Halted(Halt<'a>),
     /// This manifest is refused, with its fault, for the role of this record, whose number is the place of the fault.
     Role(Fault, BadRecord),
-}
-
-/// The name at an index; empty where there is none.
-fn name_at<'a>(names: &[&'a str], index: usize) -> &'a str
-    ensures { (name : List ℕ) → slice_get (map (λ name. name.now) names.now) index ≡ Some name → result.now ≡ name }
-{
-    match names.get(index) {
-        Some(name) => *name,
-        None => "",
-    }
-}
-
-/// The refusal of the file at an index of a package whose files have these names.
-pub(crate) fn refused<'a>(names: &[&'a str], index: usize, fault: Fault) -> Halt<'a>
-    ensures { (all : List FileView) → map (λ name. name.now) names.now ≡ map (λ source. source.name) all → IsFirstRefused all index fault → Halts (RefusedAmong all) ⊥ result }
-{
-    let name = name_at(names, index);
-    Halt::Refused(Subject::File { index, name }, fault)
 }
 
 /// The role and the file name of the record at an index, where there is one and both are plain text.
@@ -256,59 +226,6 @@ impl Display for UnreadLine<'_> {
     }
 }
 
-/// What is said of something that cannot be read: the name by which it was looked for, and from where names are taken.
-#[derive(Clone, Copy)]
-struct UnreadSentence<'a> {
-    subject: Subject<'a>,
-    path: &'a str,
-    folder: Option<&'a str>,
-}
-
-impl Display for UnreadSentence<'_> {
-    ghost output = { λ it. Some (unread_sentence it.subject it.path.now (option_map (λ f. f.now) it.folder)) };
-
-    fn fmt<W: fmt::Write>(&self, f: &mut Formatter<W>) -> fmt::Result {
-        let (path, place) = (self.path, place_of_names(self.folder));
-        match self.subject {
-            Subject::Manifest => write!(
-                f,
-                "cannot read the manifest {path}: file names are taken from {place}"
-            ),
-            Subject::Waivers => write!(
-                f,
-                "cannot read the file of waivers {path}: file names are taken from {place}"
-            ),
-            Subject::File { name, .. } => write!(
-                f,
-                "cannot read {path}, the file of {name}: file names are taken from {place}"
-            ),
-        }
-    }
-}
-
-/// What is said of a folder, by the name under which a file was looked for.
-#[derive(Clone, Copy)]
-struct FolderSentence<'a> {
-    subject: Subject<'a>,
-    path: &'a str,
-}
-
-impl Display for FolderSentence<'_> {
-    ghost output = { λ it. Some (found_folder_sentence it.subject it.path.now) };
-
-    fn fmt<W: fmt::Write>(&self, f: &mut Formatter<W>) -> fmt::Result {
-        let path = self.path;
-        match self.subject {
-            Subject::Manifest => write!(f, "{}", Container::Folder(path)),
-            Subject::Waivers => write!(f, "{path} is a folder: name a file of waivers"),
-            Subject::File { name, .. } => write!(
-                f,
-                "{path}, the file of {name}, is a folder: a manifest must name files"
-            ),
-        }
-    }
-}
-
 /// Prints a refusal in this style.
 fn print_refusal<W: Write>(
     out: &mut W,
@@ -388,13 +305,12 @@ impl Display for RefusalSentence<'_> {
 fn print_explained<W: Write, E: Write>(
     to: &mut Streams<W, E>,
     style: RefusalStyle,
-    what: Subject,
+    subject: Subject,
     fault: Fault,
     said: RefusalSentence,
 ) -> Result<(), Failure>
-    ensures { OnOk result (PrintsRefusal style (explained_refusal said.entry what.entry fault) (texts W.contents E.contents to.old) (texts W.contents E.contents to.new)) }
+    ensures { OnOk result (PrintsRefusal style (explained_refusal said.entry subject.entry fault) (texts W.contents E.contents to.old) (texts W.contents E.contents to.new)) }
 {
-    let subject = what;
     let line = RefusalLine { subject, fault };
     let page = Indented(page_of(fault.reason));
     match style {
@@ -404,61 +320,66 @@ fn print_explained<W: Write, E: Write>(
         }
         RefusalStyle::Page => write!(to.out, "{line}  {said}\n{page}")?,
         RefusalStyle::Json => {
-            write!(to.out, "{}", refused_stop(what, fault))?;
+            write!(to.out, "{}", refused_stop(subject, fault))?;
             write!(to.err, "  {said}\n")?;
         }
     }
     Ok(())
 }
 
-/// How something was looked for by this name, as far as the loader knows.
-fn sought_by<'a, L: Loader>(loader: &'a L, path: &'a str) -> Sought<'a>
-    ensures { result.path.now ≡ path.now }
-{
-    Sought {
-        path,
-        is_folder: loader.is_folder(path),
-        folder: loader.folder(),
-    }
-}
-
 /// What is said of something that cannot be read, which may be a folder.
 #[derive(Clone, Copy)]
 struct UnreadWords<'a> {
     subject: Subject<'a>,
-    sought: Sought<'a>,
+    /// The name by which it was looked for.
+    path: &'a str,
+    /// Whether a folder has this name, as far as the loader knows.
+    is_folder: bool,
+    /// The folder from which names are taken, if one was entered.
+    folder: Option<&'a str>,
 }
 
 impl Display for UnreadWords<'_> {
-    ghost output = { λ it. Some (unread_words it.subject it.sought) };
+    ghost output = { λ it. Some (unread_words it) };
 
     fn fmt<W: fmt::Write>(&self, f: &mut Formatter<W>) -> fmt::Result {
-        let subject = self.subject;
-        let Sought { path, folder, .. } = self.sought;
-        if self.sought.is_folder {
-            return write!(f, "{}", FolderSentence { subject, path });
+        let (path, is_folder) = (self.path, self.is_folder);
+        let place = place_of_names(self.folder);
+        match self.subject {
+            Subject::Manifest if is_folder => write!(f, "{}", Container::Folder(path)),
+            Subject::Manifest => write!(
+                f,
+                "cannot read the manifest {path}: file names are taken from {place}"
+            ),
+            Subject::Waivers if is_folder => {
+                write!(f, "{path} is a folder: name a file of waivers")
+            }
+            Subject::Waivers => write!(
+                f,
+                "cannot read the file of waivers {path}: file names are taken from {place}"
+            ),
+            Subject::File { name, .. } if is_folder => write!(
+                f,
+                "{path}, the file of {name}, is a folder: a manifest must name files"
+            ),
+            Subject::File { name, .. } => write!(
+                f,
+                "cannot read {path}, the file of {name}: file names are taken from {place}"
+            ),
         }
-        let sentence = UnreadSentence {
-            subject,
-            path,
-            folder,
-        };
-        write!(f, "{sentence}")
     }
 }
 
-/// Prints in this style that something cannot be read, which was looked for in this way.
-fn print_sought<'a, W: Write, E: Write>(
+/// Prints in this style that something cannot be read, of which these words are said.
+fn print_unread<'a, W: Write, E: Write>(
     to: &mut Streams<W, E>,
     style: RefusalStyle,
-    subject: Subject<'a>,
-    sought: Sought<'a>,
+    words: UnreadWords<'a>,
 ) -> Result<(), Failure>
-    ensures answer { OnOk result (Appends (W.contents to.old.out) (W.contents to.new.out) (unread_text style subject.entry sought.entry)) }
-    ensures beside { OnOk result (Says (beside style (Some (unread_words subject.entry sought.entry))) (E.contents to.old.err) (E.contents to.new.err)) }
+    ensures answer { OnOk result (Appends (W.contents to.old.out) (W.contents to.new.out) (unread_text style words.entry)) }
+    ensures beside { OnOk result (Says (beside style (Some (unread_words words.entry))) (E.contents to.old.err) (E.contents to.new.err)) }
 {
-    let line = UnreadLine(subject);
-    let words = UnreadWords { subject, sought };
+    let line = UnreadLine(words.subject);
     match style {
         RefusalStyle::Line => {
             write!(to.out, "{line}")?;
@@ -466,35 +387,21 @@ fn print_sought<'a, W: Write, E: Write>(
         }
         RefusalStyle::Page => write!(to.out, "{line}  {words}\n")?,
         RefusalStyle::Json => {
-            write!(to.out, "{}", unread_stop(subject))?;
+            write!(to.out, "{}", unread_stop(words.subject))?;
             write!(to.err, "  {words}\n")?;
         }
     }
     Ok(())
 }
 
-/// Prints in this style that something cannot be read, which was looked for by this name.
-fn print_unread<'a, L: Loader, W: Write, E: Write>(
-    to: &mut Streams<W, E>,
-    style: RefusalStyle,
-    subject: Subject<'a>,
-    loader: &'a L,
-    path: &'a str,
-) -> Result<(), Failure>
-    ensures { OnOk result (PrintsUnread style subject.entry path.now (texts W.contents E.contents to.old) (texts W.contents E.contents to.new)) }
-{
-    print_sought(to, style, subject, sought_by(loader, path))
-}
-
-/// Prints why nothing is done with a package, and returns the status of the run. What cannot be read was looked for by this name.
+/// Prints why nothing is done with a package, and returns the status of the run.
 pub(crate) fn print_halt<L: Loader, W: Write, E: Write>(
     to: &mut Streams<W, E>,
     style: RefusalStyle,
     halt: Halt,
     loader: &L,
-    path: &str,
 ) -> Result<Status, Failure>
-    ensures { IfOk result (AfterHalt style halt.entry path.now (texts W.contents E.contents to.old) (texts W.contents E.contents to.new)) }
+    ensures { IfOk result (AfterHalt style halt.entry (texts W.contents E.contents to.old) (texts W.contents E.contents to.new)) }
 {
     match halt {
         Halt::Refused(subject, fault) => {
@@ -505,25 +412,30 @@ pub(crate) fn print_halt<L: Loader, W: Write, E: Write>(
             print_explained(to, style, subject, fault, RefusalSentence::Archive(name))?;
             Ok(Status::Refused)
         }
-        Halt::Unread(subject) => {
-            print_unread(to, style, subject, loader, path)?;
+        Halt::Unread(subject, path) => {
+            let words = UnreadWords {
+                subject,
+                path,
+                is_folder: loader.is_folder(path),
+                folder: loader.folder(),
+            };
+            print_unread(to, style, words)?;
             Ok(Status::Device)
         }
     }
 }
 
-/// Prints why there is no table, and returns the status of the run. What cannot be read was looked for by this name.
+/// Prints why there is no table, and returns the status of the run.
 pub(crate) fn print_no_table<L: Loader, W: Write, E: Write>(
     to: &mut Streams<W, E>,
     style: RefusalStyle,
     no_table: &NoTable,
     loader: &L,
-    path: &str,
 ) -> Result<Status, Failure>
-    ensures { IfOk result (AfterNoTable style no_table.now path.now (texts W.contents E.contents to.old) (texts W.contents E.contents to.new)) }
+    ensures { IfOk result (AfterNoTable style no_table.now (texts W.contents E.contents to.old) (texts W.contents E.contents to.new)) }
 {
     match no_table {
-        NoTable::Halted(halt) => print_halt(to, style, *halt, loader, path),
+        NoTable::Halted(halt) => print_halt(to, style, *halt, loader),
         NoTable::Role(fault, row) => {
             let (number, role, file) = (fault.place, row.role.as_str(), row.file.as_str());
             let sentence = RefusalSentence::Role { number, role, file };

@@ -2,19 +2,18 @@
 
 ghost use Rattle.std.specs.Prelude.{◌≡◌, ◌&&◌, List, IfOk, OnOk, map};
 ghost use Rattle.std.specs.List.{AllByRecursion};
-ghost use Rattle.package_check.specs.Holding.{HasTakenAll};
+ghost use Rattle.board_report.specs.BoardReport.{IsBoardReport};
+ghost use Rattle.package_check.specs.Boards.{IsFlashedBoard};
 ghost use Rattle.package_check.specs.Package.{FileView};
 ghost use Rattle.report.specs.declared.Acceptances.{Acceptances as TheAcceptances};
-ghost use Rattle.ringcheck.specs.Inner.Halting.{OfTaken};
 ghost use Rattle.ringcheck.specs.Inner.Jobs.{given_waivers};
-ghost use Rattle.ringcheck.specs.Inner.Reporting.{IsReportOn};
-ghost use Rattle.ringcheck.specs.ReportStatus.{IsFewer, Judges, PrintsPage, PrintsReport, asks_wide, has_none, kept_for, says_fewer};
+ghost use Rattle.ringcheck.specs.Inner.Loading.{IsKeptBoard};
+ghost use Rattle.ringcheck.specs.ReportStatus.{IsFewer, Judges, PrintsPage, PrintsReport, Reports, asks_wide, has_none, kept_for, says_fewer};
 
 use crate::jobs::Order;
 use crate::parsed_words::ReportFormat;
-use crate::refusals::{Halt, refused};
-use crate::{PackageFault, PackageReader};
 use board_report::report_on;
+use command_line::PROGRAM;
 use grid_units::Profile;
 use package_check::{Board, fewer_in_wide, laws};
 use pad_shapes::Drawn;
@@ -27,28 +26,29 @@ use std::alloc::Global;
 use std::io::Write;
 use waivers::{Waiver, WaiverText, idle, reasons, waive};
 
-/// What is printed of a package: the names of its files, its board, the report on it, and the particulars of that.
+/// What is printed of a package: the names of its files, its board, an outline, the report on it, and the particulars of that.
 #[derive(Clone, Copy)]
-pub(crate) struct Reported<'a> {
-    pub(crate) names: &'a [&'a str],
-    pub(crate) board: &'a Board,
-    pub(crate) report: &'a BoardReport,
-    pub(crate) about: &'a Particulars<'a>,
+struct Reported<'a> {
+    names: &'a [&'a str],
+    board: &'a Board,
+    outline: &'a [Drawn],
+    report: &'a BoardReport,
+    about: &'a Particulars<'a>,
 }
 
 /// Prints the page of a report on a board, with its outline and the reasons why findings are waived.
 fn print_page<W: Write>(
     alloc: Global,
     reported: &Reported,
-    outline: &[Drawn],
     accepted: &Acceptances,
     out: &mut W,
 ) -> Result<(), Failure>
-    ensures { OnOk result (PrintsPage (map (λ name. name.now) reported.now.names.now) reported.now.about.now reported.now.board.now outline.now reported.now.report.now accepted.now (W.contents out.old) (W.contents out.new)) }
+    ensures { OnOk result (PrintsPage (map (λ name. name.now) reported.now.names.now) reported.now.about.now reported.now.board.now reported.now.outline.now reported.now.report.now accepted.now (W.contents out.old) (W.contents out.new)) }
 {
     let Reported {
         names,
         board,
+        outline,
         report,
         about,
     } = *reported;
@@ -65,23 +65,21 @@ fn print<W: Write>(
     accepted: &Acceptances,
     out: &mut W,
 ) -> Result<(), Failure>
-    ensures { OnOk result (PrintsReport options.now.format (map (λ name. name.now) reported.now.names.now) reported.now.board.now options.now.outline.items reported.now.report.now reported.now.about.now options.now.limit accepted.now (W.contents out.old) (W.contents out.new)) }
+    ensures { OnOk result (PrintsReport options.now.format (map (λ name. name.now) reported.now.names.now) reported.now.board.now reported.now.outline.now reported.now.report.now reported.now.about.now options.now.limit accepted.now (W.contents out.old) (W.contents out.new)) }
 {
     let Reported {
         names,
         board,
         report,
         about,
+        ..
     } = *reported;
     match options.format {
         ReportFormat::Text => {
             let text = ReportText::new(alloc, names, report, about.fewer, options.limit, accepted)?;
             write!(out, "{text}")?;
         }
-        ReportFormat::Html => {
-            let outline = options.outline.as_slice();
-            print_page(alloc, reported, outline, accepted, out)?;
-        }
+        ReportFormat::Html => print_page(alloc, reported, accepted, out)?,
         ReportFormat::Json => {
             let json = ReportJson {
                 about,
@@ -98,7 +96,7 @@ fn print<W: Write>(
 }
 
 /// Whether a report has no finding.
-pub(crate) fn has_none(report: &BoardReport) -> bool
+fn has_none(report: &BoardReport) -> bool
     ensures { result ≡ has_none report.now }
 {
     report.rings.is_empty() && report.gaps.is_empty()
@@ -122,13 +120,13 @@ fn asks_wide(options: &Order, report: &BoardReport) -> bool
 }
 
 /// How many findings of the report on a board the wide profile does not have, where the report asks for that; else 0.
-pub(crate) fn fewer_findings(
+fn fewer_findings(
     alloc: Global,
     options: &Order,
     board: &Board,
     report: &BoardReport,
 ) -> Result<u128, Failure>
-    ensures { (all : List FileView) → AllByRecursion (λ source. source.setting.profile ≡ options.now.rules.profile) all → IsReportOn options.now.rules options.now.format board.now report.now all
+    ensures { (all : List FileView) → AllByRecursion (λ source. source.setting.profile ≡ options.now.rules.profile) all → IsFlashedBoard all board.now → IsBoardReport options.now.rules board.now report.now
         → IfOk result (IsFewer (asks_wide options.now.format options.now.rules report.now) all report.now) }
 {
     if !asks_wide(options, report) {
@@ -147,7 +145,7 @@ fn print_waived<W: Write>(
     out: &mut W,
 ) -> Result<bool, Failure>
     ensures { IfOk result (λ passes. (accepted : TheAcceptances) × Judges (Some waivers.now) (map (λ name. name.now) reported.now.names.now) reported.now.report.now passes accepted
-        × PrintsReport options.now.format (map (λ name. name.now) reported.now.names.now) reported.now.board.now options.now.outline.items reported.now.report.now reported.now.about.now options.now.limit accepted (W.contents out.old) (W.contents out.new)) }
+        × PrintsReport options.now.format (map (λ name. name.now) reported.now.names.now) reported.now.board.now reported.now.outline.now reported.now.report.now reported.now.about.now options.now.limit accepted (W.contents out.old) (W.contents out.new)) }
 {
     let waived = waive(alloc, reported.names, reported.report, waivers)?;
     let rings = reasons(alloc, waivers, waived.rings.as_slice())?;
@@ -163,14 +161,14 @@ fn print_waived<W: Write>(
 }
 
 /// Prints a report with the waivers that it is asked for, if there are any, and returns whether it passes.
-pub(crate) fn print_judged<W: Write>(
+fn print_judged<W: Write>(
     alloc: Global,
     reported: &Reported,
     options: &Order,
     out: &mut W,
 ) -> Result<bool, Failure>
     ensures { IfOk result (λ passes. (accepted : TheAcceptances) × Judges (given_waivers options.now.waivers) (map (λ name. name.now) reported.now.names.now) reported.now.report.now passes accepted
-        × PrintsReport options.now.format (map (λ name. name.now) reported.now.names.now) reported.now.board.now options.now.outline.items reported.now.report.now reported.now.about.now options.now.limit accepted (W.contents out.old) (W.contents out.new)) }
+        × PrintsReport options.now.format (map (λ name. name.now) reported.now.names.now) reported.now.board.now reported.now.outline.now reported.now.report.now reported.now.about.now options.now.limit accepted (W.contents out.old) (W.contents out.new)) }
 {
     match &options.waivers {
         Some(waivers) => print_waived(alloc, reported, options, waivers.as_slice(), out),
@@ -186,24 +184,34 @@ pub(crate) fn print_judged<W: Write>(
     }
 }
 
-/// The board of the files of these names, which a reader has taken, and the report on it; or the first file that is refused.
-pub(crate) fn report_on_taken<'a>(
+/// Prints the report on the board of the files of these names, which a manifest lists, with an outline of these parts, and returns
+/// whether it passes.
+pub(crate) fn report<W: Write>(
     alloc: Global,
-    reader: PackageReader,
-    names: &[&'a str],
+    board: &Board,
+    names: &[&str],
+    manifest: &str,
     options: &Order,
-) -> Result<Result<(Board, BoardReport), Halt<'a>>, Failure>
-    ensures { (all : List FileView) → map (λ name. name.now) names.now ≡ map (λ source. source.name) all → HasTakenAll reader (kept_for options.now.format) all
-        → IfOk result (OfTaken (λ found. IsReportOn options.now.rules options.now.format found.0 found.1) all) }
+    outline: &[Drawn],
+    out: &mut W,
+) -> Result<bool, Failure>
+    ensures { (all : List FileView) → map (λ name. name.now) names.now ≡ map (λ source. source.name) all → AllByRecursion (λ source. source.setting.profile ≡ options.now.rules.profile) all
+        → IsKeptBoard (kept_for options.now.format) board.now all → IfOk result (λ passes. Reports manifest.now options.now.rules options.now.limit options.now.format (given_waivers options.now.waivers) outline.now (W.contents out.old) (W.contents out.new) passes all) }
 {
     laws::report_agrees_with_check();
-    let board = match reader.board() {
-        Ok(board) => board,
-        Err(PackageFault::Memory) => return Err(Failure::Memory),
-        Err(PackageFault::File { index, fault }) => {
-            return Ok(Err(refused(names, index, fault)));
-        }
+    let report = report_on(alloc, board, options.rules)?;
+    let fewer = fewer_findings(alloc, options, board, &report)?;
+    let about = Particulars {
+        manifest,
+        program: PROGRAM,
+        fewer,
     };
-    let report = report_on(alloc, &board, options.rules)?;
-    Ok(Ok((board, report)))
+    let reported = Reported {
+        names,
+        board,
+        outline,
+        report: &report,
+        about: &about,
+    };
+    print_judged(alloc, &reported, options, out)
 }

@@ -1,26 +1,29 @@
 //! What is said of refused words: which word, why, and what to write instead.
 
-ghost use Rattle.std.specs.Prelude.{◌≡◌, IfSome, OnOk, Some, is_some, option_map};
-ghost use Rattle.ringcheck_files.specs.Words.{PrintsUsage};
+ghost use Rattle.std.specs.Prelude.{◌≡◌, IfOk, IfSome, Some, is_some};
+ghost use Rattle.ringcheck_files.specs.Words.{IsExplainedUsage};
 ghost use Rattle.ringcheck_files.specs.Writers.{texts};
 ghost use Rattle.ringcheck.specs.Sentences as sentences;
+ghost use Rattle.ringcheck.specs.ParsedWords.{word_bytes};
 
 use crate::parsed_words::{parse_length, parse_limit, parse_rules, profile_of};
 use command_line::ReportWords;
 use grid_units::Reason;
-use ringcheck_files::{Failure, Streams, refuse_word};
+use ringcheck_files::{Failure, Status, Streams, refuse_word};
 use std::fmt;
 use std::fmt::{Display, Formatter};
 use std::io::Write;
 
-/// Prints the line of words that are refused, and what is said of them: below the line, or if not `below`, beside it.
+/// Prints the line of words that are refused, and what is said of them: below the line, or if not `below`, beside it. Returns the status
+/// of the run.
 pub(crate) fn refuse<W: Write, E: Write, S: Display>(
     to: &mut Streams<W, E>,
     below: bool,
     reason: Reason,
     said: &S,
-) -> Result<(), Failure>
-    ensures { OnOk result (IfSome (S.output said.now) (λ s. PrintsUsage below reason s (texts W.contents E.contents to.old) (texts W.contents E.contents to.new))) }
+) -> Result<Status, Failure>
+    ensures says { IfOk result (λ status. IfSome (S.output said.now) (λ s. IsExplainedUsage below reason s (texts W.contents E.contents to.old) (texts W.contents E.contents to.new) status)) }
+    ensures usage { IfOk result (λ status. status ≡ Status.Usage) }
 {
     refuse_word(&mut to.out, reason)?;
     if below {
@@ -28,7 +31,7 @@ pub(crate) fn refuse<W: Write, E: Write, S: Display>(
     } else {
         write!(to.err, "  {said}\n")?;
     }
-    Ok(())
+    Ok(Status::Usage)
 }
 
 /// What a rule is, where a word is none for this reason.
@@ -102,7 +105,7 @@ impl Display for NoRules<'_> {
 struct NoCount<'a>(Option<&'a str>);
 
 impl Display for NoCount<'_> {
-    ghost output = { λ it. Some (sentences.count_sentence (option_map (λ w. w.now) it.0)) };
+    ghost output = { λ it. Some (sentences.count_sentence (word_bytes it.0)) };
 
     fn fmt<W: fmt::Write>(&self, f: &mut Formatter<W>) -> fmt::Result {
         match self.0 {
@@ -115,48 +118,12 @@ impl Display for NoCount<'_> {
     }
 }
 
-/// What is said of a word that is no format of a report, or of `waivers`, which is refused where a file of waivers is given.
-#[derive(Clone, Copy)]
-struct NoReportFormat<'a>(Option<&'a str>);
-
-impl Display for NoReportFormat<'_> {
-    ghost output = { λ it. Some (sentences.report_format_sentence (option_map (λ w. w.now) it.0)) };
-
-    fn fmt<W: fmt::Write>(&self, f: &mut Formatter<W>) -> fmt::Result {
-        match self.0 {
-            Some("waivers") => f.write_str(
-                "--waive does not work with --format waivers, which prints a file of waivers",
-            ),
-            Some(word) => write!(
-                f,
-                "--format must be text, html, json or waivers, not {word}"
-            ),
-            None => f.write_str("--format must be text, html, json or waivers"),
-        }
-    }
-}
-
-/// What is said of a word that is no format of a measure.
-#[derive(Clone, Copy)]
-struct NoMeasureFormat<'a>(Option<&'a str>);
-
-impl Display for NoMeasureFormat<'_> {
-    ghost output = { λ it. Some (sentences.measure_format_sentence (option_map (λ w. w.now) it.0)) };
-
-    fn fmt<W: fmt::Write>(&self, f: &mut Formatter<W>) -> fmt::Result {
-        match self.0 {
-            Some(word) => write!(f, "--format must be text or json, not {word}"),
-            None => f.write_str("--format must be text or json"),
-        }
-    }
-}
-
 /// What is said of a word that names no profile.
 #[derive(Clone, Copy)]
 pub(crate) struct NoProfile<'a>(pub(crate) Option<&'a str>);
 
 impl Display for NoProfile<'_> {
-    ghost output = { λ it. Some (sentences.profile_sentence (option_map (λ w. w.now) it.0)) };
+    ghost output = { λ it. Some (sentences.profile_sentence (word_bytes it.0)) };
 
     fn fmt<W: fmt::Write>(&self, f: &mut Formatter<W>) -> fmt::Result {
         match self.0 {
@@ -175,7 +142,7 @@ pub(crate) struct NoPicture<'a> {
 }
 
 impl Display for NoPicture<'_> {
-    ghost output = { λ it. Some (sentences.draw_sentence (option_map (λ w. w.now) it.profile) (option_map (λ w. w.now) it.ring) (option_map (λ w. w.now) it.gap)) };
+    ghost output = { λ it. Some (sentences.draw_sentence (word_bytes it.profile) (word_bytes it.ring) (word_bytes it.gap)) };
 
     fn fmt<W: fmt::Write>(&self, f: &mut Formatter<W>) -> fmt::Result {
         if profile_of(self.profile).is_none() {
@@ -196,13 +163,16 @@ pub(crate) struct NoMeasure<'a> {
 }
 
 impl Display for NoMeasure<'_> {
-    ghost output = { λ it. Some (sentences.measure_sentence (option_map (λ w. w.now) it.profile) (option_map (λ w. w.now) it.format)) };
+    ghost output = { λ it. Some (sentences.measure_sentence (word_bytes it.profile) (word_bytes it.format)) };
 
     fn fmt<W: fmt::Write>(&self, f: &mut Formatter<W>) -> fmt::Result {
         if profile_of(self.profile).is_none() {
             return write!(f, "{}", NoProfile(self.profile));
         }
-        write!(f, "{}", NoMeasureFormat(self.format))
+        match self.format {
+            Some(word) => write!(f, "--format must be text or json, not {word}"),
+            None => f.write_str("--format must be text or json"),
+        }
     }
 }
 
@@ -211,28 +181,39 @@ impl Display for NoMeasure<'_> {
 pub(crate) struct NoReport<'a>(pub(crate) &'a ReportWords<'a>);
 
 impl Display for NoReport<'_> {
-    ghost output = { λ it. Some (sentences.report_sentence (option_map (λ w. w.now) it.0.now.profile) it.0.now.ring.now it.0.now.gap.now (option_map (λ w. w.now) it.0.now.limit) (is_some (option_map (λ w. w.now) it.0.now.outline)) (option_map (λ w. w.now) it.0.now.format)) };
+    ghost output = { λ it. Some (sentences.report_sentence (word_bytes it.0.now.profile) it.0.now.ring.now it.0.now.gap.now (word_bytes it.0.now.limit) (is_some (word_bytes it.0.now.outline)) (word_bytes it.0.now.format)) };
 
     fn fmt<W: fmt::Write>(&self, f: &mut Formatter<W>) -> fmt::Result {
         let words = self.0;
         let (ring, gap) = (words.ring, words.gap);
         if profile_of(words.profile).is_none() {
-            write!(f, "{}", NoProfile(words.profile))
-        } else if parse_rules(ring, gap).is_err() {
-            write!(f, "{}", NoRules { ring, gap })
-        } else if parse_limit(words.limit).is_err() {
-            write!(f, "{}", NoCount(words.limit))
-        } else if words.outline.is_some() {
-            f.write_str("--outline works only with --format html and with draw")
-        } else {
-            write!(f, "{}", NoReportFormat(words.format))
+            return write!(f, "{}", NoProfile(words.profile));
+        }
+        if parse_rules(ring, gap).is_err() {
+            return write!(f, "{}", NoRules { ring, gap });
+        }
+        if parse_limit(words.limit).is_err() {
+            return write!(f, "{}", NoCount(words.limit));
+        }
+        if words.outline.is_some() {
+            return f.write_str("--outline works only with --format html and with draw");
+        }
+        match words.format {
+            Some("waivers") => f.write_str(
+                "--waive does not work with --format waivers, which prints a file of waivers",
+            ),
+            Some(word) => write!(
+                f,
+                "--format must be text, html, json or waivers, not {word}"
+            ),
+            None => f.write_str("--format must be text, html, json or waivers"),
         }
     }
 }
 
 /// Whether what is printed in the format of a word is for people who see it at once: not where it is `html`, `json` or `waivers`.
 pub(crate) fn is_for_people(word: Option<&str>) -> bool
-    ensures { result ≡ sentences.is_for_people (option_map (λ w. w.now) word.entry) }
+    ensures { result ≡ sentences.is_for_people (word_bytes word.entry) }
 {
     match word {
         None => true,

@@ -1,10 +1,11 @@
 //! The table of one file, or a manifest of some, in the profile that a word names.
 
-ghost use Rattle.std.specs.Prelude.{IfOk, map, option_map};
+ghost use Rattle.std.specs.Prelude.{IfOk, map};
 ghost use Rattle.ringcheck_files.specs.FileStatus.{parse_kind};
 ghost use Rattle.ringcheck_files.specs.Outcomes.{HasCause};
 ghost use Rattle.ringcheck_files.specs.Writers.{texts};
 ghost use Rattle.ringcheck.specs.ParsedWords as named;
+ghost use Rattle.ringcheck.specs.ParsedWords.{word_bytes};
 ghost use Rattle.ringcheck.specs.Sentences.{profile_sentence};
 ghost use Rattle.ringcheck.specs.ManifestStatus.{IsParsedManifestStatus};
 ghost use Rattle.ringcheck.specs.ShowStatus.{IsParsedShowStatus};
@@ -26,15 +27,12 @@ pub(crate) fn show<L: Loader, W: Write, E: Write>(
     loader: &mut L,
     to: &mut Streams<W, E>,
 ) -> Result<Status, Failure>
-    ensures says { IfOk result (IsParsedShowStatus (named.profile_of (option_map (λ w. w.now) profile.entry)) (profile_sentence (option_map (λ w. w.now) profile.entry)) (parse_kind kind.now) (L.has loader.old) name.now (texts W.contents E.contents to.old) (texts W.contents E.contents to.new)) }
+    ensures says { IfOk result (IsParsedShowStatus (named.profile_of (word_bytes profile.entry)) (profile_sentence (word_bytes profile.entry)) (parse_kind kind.now) (L.has loader.old) name.now (texts W.contents E.contents to.old) (texts W.contents E.contents to.new)) }
     ensures cause { IfOk result (HasCause (L.failed loader.old) (L.failed loader.new)) }
 {
     match profile_of(profile) {
         Some(profile) => print(alloc, FileJob::Show(profile), kind, name, loader, to),
-        None => {
-            refuse(to, true, Reason::BadRole, &NoProfile(profile))?;
-            Ok(Status::Usage)
-        }
+        None => refuse(to, true, Reason::BadRole, &NoProfile(profile)),
     }
 }
 
@@ -47,14 +45,11 @@ pub(crate) fn manifest<L: Loader, W: Write, E: Write>(
     loader: &mut L,
     to: &mut Streams<W, E>,
 ) -> Result<Status, Failure>
-    ensures says { IfOk result (IsParsedManifestStatus (named.profile_of (option_map (λ w. w.now) profile.entry)) (profile_sentence (option_map (λ w. w.now) profile.entry)) why (L.has loader.old) (L.failed loader.old) (L.failed loader.new) (map (λ file. file.now) files.now) (texts W.contents E.contents to.old) (texts W.contents E.contents to.new)) }
+    ensures says { IfOk result (IsParsedManifestStatus (named.profile_of (word_bytes profile.entry)) (profile_sentence (word_bytes profile.entry)) why (L.has loader.old) (L.failed loader.old) (L.failed loader.new) (map (λ file. file.now) files.now) (texts W.contents E.contents to.old) (texts W.contents E.contents to.new)) }
     ensures cause { IfOk result (HasCause (L.failed loader.old) (L.failed loader.new)) }
 {
     match profile_of(profile) {
         Some(profile) => print_manifest(alloc, profile, why, files, loader, &mut to.out),
-        None => {
-            refuse(to, true, Reason::BadRole, &NoProfile(profile))?;
-            Ok(Status::Usage)
-        }
+        None => refuse(to, true, Reason::BadRole, &NoProfile(profile)),
     }
 }

@@ -1,5 +1,5 @@
 -- The page that a search of the pages finds.
-use Rattle.ringcheck_files.proofs.Common.{◌≡◌, ◌≤◌, ◌+◌, ◌++◌, ◌&&◌, ◌↔◌, ◌∙◌, ℕ, codes, leb, leb-true, length, list_all, take, reason_name, Bool, Bor, true, false≢true, List, IfSome, IsSome, MatchOption, Option, Some, None, [], ◌∷◌, map, refl, sym, ap, subst, find, AllByRecursion, before_first, Contains, option_map, option_or, bytes_eq, str_eq_ignore_ascii_case, IsPageOf, known_word, listed_word, listed_in_any_case, FitsScreen, HasHeading, IsExplained, all_words, is_colon}
+use Rattle.ringcheck_files.proofs.Common.{◌≡◌, ◌≤◌, ◌+◌, ◌++◌, ◌&&◌, ◌↔◌, ◌∙◌, ℕ, codes, leb, leb-true, length, list_all, take, Bool, Bor, true, false≢true, List, IfSome, IsSome, MatchOption, Option, Some, None, [], ◌∷◌, map, refl, sym, ap, subst, find, AllByRecursion, before_first, Contains, option_map, option_or, bytes_eq, str_eq_ignore_ascii_case, IsPageOf, known_word, listed_word, listed_in_any_case, FitsScreen, HasHeading, IsExplained, all_words, is_colon}
 use Rattle.std.specs.Str.Lines.{lines}
 use Rattle.std.proofs.lemmas.Slice.Eq.{bytes_eq-Decides}
 use Rattle.grid_units.proofs.BoolLemmas.{both_true}
@@ -11,7 +11,7 @@ abbrev pub texts : List (List ℕ)
 texts = map (λ page. page.now) PAGES
 
 -- the word of a page
-abbrev heading : List ℕ → List ℕ
+abbrev pub heading : List ℕ → List ℕ
 heading = before_first is_colon
 
 -- the word of a borrowed page
@@ -23,11 +23,11 @@ abbrev IsPage : List ℕ → Type 0
 IsPage page = HasHeading (heading page) page × FitsScreen page
 
 -- whether no line is wider than a screen
-abbrev are_narrow : List (List ℕ) → Bool
+abbrev pub are_narrow : List (List ℕ) → Bool
 are_narrow = list_all (λ line. leb (length line) 78)
 
 -- whether a page begins with its word, and fits a screen
-abbrev is_page : List ℕ → Bool
+abbrev pub is_page : List ℕ → Bool
 is_page page = bytes_eq (take (length (heading page) + 2) page) (heading page ++ codes ": ") && (leb (length (lines page)) 12 && are_narrow (lines page))
 
 narrow : (ls : List (List ℕ)) → are_narrow ls ≡ true → AllByRecursion (λ line. length line ≤ 78) ls
@@ -43,15 +43,6 @@ one_is_page page e =
 all_are_pages : (pages : List (List ℕ)) → list_all is_page pages ≡ true → AllByRecursion IsPage pages
 all_are_pages [] e = tt
 all_are_pages (page ∷ pages) e = let both = both_true (is_page page) (list_all is_page pages) e in (one_is_page page both.0, all_are_pages pages both.1)
-
--- each page begins with its word, and fits a screen
-each_is_page : AllByRecursion IsPage texts
-each_is_page = all_are_pages texts refl
-
--- the pages have all words in order
-words_of_pages : map heading texts ≡ all_words
-unfolding reason_name
-words_of_pages = refl
 
 all_shown : (P : List ℕ → Type 0) (pages : List (Bor (List ℕ))) → AllByRecursion P (map (λ page. page.now) pages) → AllByRecursion (λ page. P page.now) pages
 all_shown P [] h = tt
@@ -79,13 +70,14 @@ page_of_itself word page explained headed fits = by (listed_word word) refl
     by None e = absurd (listed_is_found (λ k. k) word all_words e (word_is_listed word explained))
     by (Some x) e = subst (λ w. IsPageOf (Some w) page) (sym (found_itself word x e).0) (headed, fits)
 
-module _ (pages : List (Bor (List ℕ))) (are : map (λ page. page.now) pages ≡ texts) where
+-- pages that begin with their words and fit a screen, and that have all words in order
+module _ (pages : List (Bor (List ℕ))) (are : map (λ page. page.now) pages ≡ texts) (are_pages : list_all is_page texts ≡ true) (in_order : map heading texts ≡ all_words) where
   all_pages : AllByRecursion (λ (page : Bor (List ℕ)). IsPage page.now) pages
-  all_pages = all_shown IsPage pages (subst (AllByRecursion IsPage) (sym are) each_is_page)
+  all_pages = all_shown IsPage pages (subst (AllByRecursion IsPage) (sym are) (all_are_pages texts are_pages))
 
   -- they have all words in order
   pub same_words : map word_of pages ≡ all_words
-  same_words = words_shown pages ∙ ap (map heading) are ∙ words_of_pages
+  same_words = words_shown pages ∙ ap (map heading) are ∙ in_order
 
   -- a search of the pages by their words is one of the listed words
   pub word_found : (test : List ℕ → Bool) (r : Option (Bor (List ℕ))) → option_map (λ page. page) r ≡ find (λ page. test (word_of page)) pages → option_map word_of r ≡ find test all_words

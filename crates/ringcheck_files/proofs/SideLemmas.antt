@@ -1,15 +1,8 @@
 -- Sides of pads, as they are spelled.
 use Rattle.ringcheck_files.proofs.Common.{◌≡◌, ◌∙◌, ◌<◌, ◌++◌, ◌∷◌, ◌/◌, ◌%◌, ◌^◌, ℕ, pos, List, ap, ap₂, sym, arith, lit<, decimal, decimal_digit, millimetres, places}
+use Rattle.grid_units.proofs.Spelled.{below_one}
 
--- less than a millimetre: its whole part is 0
-pub below_one : (n : ℕ) → n < 10 ^ 9 → millimetres (pos n) ≡ 48 ∷ 46 ∷ places 9 n
-unfolding millimetres
-below_one n lt =
-    let none : n / 1000000000 ≡ 0 = omega (arith, lt) in
-    let rest : n % 1000000000 ≡ n = omega (arith, lt) in
-    ap₂ (λ (q r : ℕ). decimal q ++ 46 ∷ places 9 r) none rest ∙ ap (λ (t : List ℕ). t ++ 46 ∷ places 9 n) (decimal_digit 0 (lit< tt))
-
--- what follows the zero of such a length: a point and its decimals
+-- what follows the zero of a length below one: a point and its decimals
 pub behind_zero : (n : ℕ) → n < 10 ^ 9 → (spelled rest : List ℕ) → spelled ≡ millimetres (pos n) → spelled ≡ 48 ∷ rest → rest ≡ 46 ∷ places 9 n
 behind_zero n lt spelled rest is split = let both : 48 ∷ rest ≡ 48 ∷ 46 ∷ places 9 n = sym split ∙ is ∙ below_one n lt in cc
 

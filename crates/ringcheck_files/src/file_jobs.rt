@@ -20,7 +20,7 @@ use std::fmt::{Display, Formatter};
 use std::io::Write;
 
 /// What is printed of a file.
-#[derive(Clone, Copy, Debug, PartialEq, Eq)]
+#[derive(Clone, Copy)]
 pub enum FileJob {
     /// Its table, where it is read in this profile.
     Show(Profile),

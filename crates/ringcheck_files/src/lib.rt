@@ -36,7 +36,7 @@ pub use sink::Sink;
 pub use word_list::{explanation, explanation_in_any_case, near_word, words};
 
 /// How a run ended.
-#[derive(Clone, Copy, Debug, PartialEq, Eq)]
+#[derive(Clone, Copy, PartialEq, Eq)]
 pub enum Status {
     /// Nothing was found, each finding is waived, or a command that looks for no findings is done.
     Pass,

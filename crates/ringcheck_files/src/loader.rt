@@ -19,7 +19,7 @@ pub const ABOVE_LIMIT: Fault = Fault {
 };
 
 /// Why a file was not loaded.
-#[derive(Clone, Copy, Debug, PartialEq, Eq, Error)]
+#[derive(Clone, Copy, Debug, Error)]
 pub enum LoadFault {
     /// The file cannot be read.
     #[error("the file cannot be read")]

@@ -20,7 +20,7 @@ pub struct Streams<W, E> {
 }
 
 /// Why a run cannot go on.
-#[derive(Clone, Copy, Debug, PartialEq, Eq)]
+#[derive(Clone, Copy)]
 pub enum Failure {
     /// Memory ran out.
     Memory,

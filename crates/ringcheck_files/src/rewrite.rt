@@ -90,7 +90,7 @@ pub fn rewrite_bytes(alloc: Global, kind: Kind, bytes: &[u8]) -> Result<Vec<u8>,
 }
 
 /// What a text is read as.
-#[derive(Clone, Copy, Debug, PartialEq, Eq)]
+#[derive(Clone, Copy, Debug)]
 pub enum Kind {
     /// A Gerber layer.
     Layer,

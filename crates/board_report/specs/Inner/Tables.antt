@@ -9,10 +9,9 @@ use Rattle.board.specs.declared.row.RingRow.{RingRow}
 use Rattle.report.specs.declared.LeastRing as shown
 use Rattle.report.specs.declared.UnitMistake.{UnitMistake}
 use Rattle.report.specs.declared.mistakes.FileRange.{FileRange}
-use Rattle.board.specs.Boards.{BoardView}
+use Rattle.board.specs.Boards.{BoardView, holes_before}
 use Rattle.board.specs.declared.FileSum.{FileSum}
 use Rattle.board_report.specs.Rows.{RowKey, places_of, IsUnitMistakeOf, is_plated}
-use Rattle.board.specs.Boards.{holes_before}
 use Rattle.board_report.specs.declared.rows.LayerFileHoles.{LayerFileHoles}
 
 -- the row of a radius, on the layer and in the drill file of a stretch

@@ -1,5 +1,5 @@
 -- Steps of the definitions, as the functions of this crate take them.
-use Rattle.std.specs.Prelude.{◌≡◌, ℕ, ◌+◌, Bool, not, List, [], length, reverse, sum_by, Option, None, Some, is_some, option_and_then, if◌then◌else◌}
+use Rattle.std.specs.Prelude.{◌≡◌, ℕ, Bool, not, List, [], reverse, Option, None, Some, is_some, option_and_then, if◌then◌else◌}
 use Rattle.std.specs.Bool.{MatchBool}
 use Rattle.std.specs.List.{after_last, list_any, prefix_len}
 use Rattle.grid_units.specs.Points.{GridPoint}
@@ -13,10 +13,6 @@ use Rattle.layer_features.specs.Contours.{is_clockwise, is_counterclockwise, is_
 use Rattle.layer_features.specs.WidePads.{AreDarkPads}
 use Rattle.layer_features.specs.declared.part.Part.{Part}
 use Rattle.layer_features.specs.declared.part.Part.TheVariants as part
-
--- the length of a macro in bytes, each piece with the `*` that ends it
-abbrev pub macro_len : List (List ℕ) → ℕ
-macro_len pieces = sum_by (λ piece. length piece + 1) pieces
 
 -- a block starts or ends (Gerber format, Step and repeat SR)
 abbrev pub changes_block : Command → Bool

@@ -16,7 +16,7 @@ use Rattle.layer_state.specs.declared.cached_values.Lengths.{Lengths}
 use Rattle.layer_state.specs.declared.cached_values.CachedValues.{CachedValues}
 use Rattle.layer_state.specs.declared.flash.Flash.{Flash}
 use Rattle.layer_state.specs.declared.flash.What.{What}
-use Rattle.layer_state.specs.Lookback.{GraphicsState, current_aperture}
+use Rattle.layer_state.specs.Lookback.{GraphicsState, current_aperture, current_of}
 use Rattle.layer_state.specs.Flashes.{rules_out_pad, why_order, what_at, current_unit, added_flashes}
 use Rattle.layer_state.specs.Inner.MovedPads.{origin}
 use Rattle.layer_state.specs.Rules.{first_broken, is_far_side, max_flashes, sides}
@@ -52,7 +52,7 @@ pub record IsSingleFlash (w : What) (unit : Units) (selected : Option Aperture) 
 abbrev pub AreCachedValues : CachedValues → GraphicsState → Type 0
 AreCachedValues cached s =
     (cached.ready ≡ true → AreLengths cached.lengths s.unit s.format)
-    × (cached.single_copy ≡ true → IsSingleFlash cached.what (current_unit s) (current_aperture s) s.scale s.turn s.block)
+    × (cached.single_copy ≡ true → IsSingleFlash cached.what (current_unit (current_of s)) (current_aperture s) s.scale s.turn s.block)
 
 -- a command that changes the unit, the format, an aperture, the selection, the turn, the scale or the block
 abbrev pub changes_cached : Command → Bool

@@ -1,56 +1,70 @@
 -- How the fields of a judge stand for the commands that it has met.
-use Rattle.std.specs.Prelude.{◌≡◌, ◌||◌, List, [], ◌∷◌, ◌++◌, Some, None, unwrap_or, Result, Ok, Err}
+use Rattle.std.specs.Prelude.{◌≡◌, ◌||◌, ℕ, Bool, true, Option, List, [], ◌∷◌, ◌++◌, Some, None, unwrap_or, Result, Ok, Err}
 use Rattle.std.specs.Option.{option_or}
 use Rattle.gerber_commands.specs.declared.command.Command.{Command}
+use Rattle.layer_state.specs.declared.aperture.Aperture.{Aperture}
+use Rattle.layer_state.specs.declared.current.Current.{Current}
 use Rattle.layer_state.specs.declared.state.State.{State}
 use Rattle.grid_units.specs.declared.item_fail.ItemFail.{ItemFail}
 use Rattle.grid_units.specs.declared.item_fail.ItemFail.TheVariants.{Memory, Refused}
-use Rattle.layer_state.specs.Lookback.{GraphicsState, state_after, unit_set, format_set, region_set, definition_set, defines_macro, aperture_selected, x_set, y_set, turn_set, scale_set, block_set}
+use Rattle.layer_state.specs.Lookback.{GraphicsState, current_of, state_after, unit_set, format_set, region_set, definition_set, defines_macro, aperture_selected, x_set, y_set, turn_set, scale_set, block_set}
 use Rattle.layer_state.specs.Rules.{broken_rule}
 use Rattle.layer_state.specs.Flashes.{flashes_of, added_flashes}
-use Rattle.layer_state.specs.KeptFlashes.{KeptParts, KeepsFlashes, Adds}
-use Rattle.layer_state.specs.Tables.{aperture_at, has_name}
+use Rattle.layer_state.specs.KeptFlashes.{KeptParts, KeepsFlashes, Adds, keeps_shapes}
+use Rattle.layer_state.specs.Shapes.{defined_numbered, defined_set, macro_named, macro_set}
+use Rattle.layer_state.specs.Tables.{aperture_at, defined_at, has_name, pieces_at}
+
+-- what the commands so far say last, with what they define
+abbrev pub state_with : Current → (ℕ → Option Aperture) → (List ℕ → Bool) → GraphicsState
+state_with now definition has_macro = record {
+  unit = now.unit;
+  format = now.format;
+  in_region = now.in_region;
+  definition = definition;
+  has_macro = has_macro;
+  selected = now.selected;
+  x = now.x;
+  y = now.y;
+  turn = now.turn;
+  scale = now.scale;
+  block = now.block;
+}
 
 -- the fields of the judge as the state that the next command meets
 abbrev pub state_of : State → GraphicsState
-state_of state = record {
-  unit = state.unit;
-  format = state.format;
-  in_region = state.in_region;
-  definition = aperture_at state.apertures;
-  has_macro = has_name state.macros;
-  selected = state.selected;
-  x = state.x;
-  y = state.y;
-  turn = state.turn;
-  scale = state.scale;
-  block = state.block;
-}
+state_of state = state_with state.current (aperture_at state.apertures) (has_name state.macros)
 
--- the judge has met just these commands: its state and its flashes are theirs
+-- the judge has met just these commands: its state and its flashes are theirs, and so is what is defined, where shapes are kept
 pub record IsStateAfter (state : State) (parts : KeptParts) (before : List Command) : Type 0 where
   pub state_after : state_of state ≡ state_after before
+  pub macros : keeps_shapes parts.keep ≡ true → pieces_at state.macros ≡ macro_named before
+  pub apertures : keeps_shapes parts.keep ≡ true → defined_at state.apertures ≡ defined_numbered before
   pub flashes : KeepsFlashes state.flashes parts (flashes_of before)
+
+-- what is said last after one more command
+abbrev pub current_after : Command → Current → Current
+current_after c now = record {
+  unit = option_or (unit_set c) now.unit;
+  format = option_or (format_set c) now.format;
+  in_region = unwrap_or (region_set c) now.in_region;
+  selected = option_or (aperture_selected c) now.selected;
+  x = unwrap_or (x_set c) now.x;
+  y = unwrap_or (y_set c) now.y;
+  turn = unwrap_or (turn_set c) now.turn;
+  scale = unwrap_or (scale_set c) now.scale;
+  block = unwrap_or (block_set c) now.block;
+}
 
 -- the state after one more command
 abbrev pub after : Command → GraphicsState → GraphicsState
-after c s = record {
-  unit = option_or (unit_set c) s.unit;
-  format = option_or (format_set c) s.format;
-  in_region = unwrap_or (region_set c) s.in_region;
-  definition = λ number. option_or (definition_set number c) (s.definition number);
-  has_macro = λ name. defines_macro name c || s.has_macro name;
-  selected = option_or (aperture_selected c) s.selected;
-  x = unwrap_or (x_set c) s.x;
-  y = unwrap_or (y_set c) s.y;
-  turn = unwrap_or (turn_set c) s.turn;
-  scale = unwrap_or (scale_set c) s.scale;
-  block = unwrap_or (block_set c) s.block;
-}
+after c s = state_with (current_after c (current_of s)) (λ number. option_or (definition_set number c) (s.definition number)) (λ name. defines_macro name c || s.has_macro name)
 
 -- the new judge is the old one after one more command
 pub record Applies (old : State) (c : Command) (new : State) : Type 0 where
   pub state_after : state_of new ≡ after c (state_of old)
+  pub macros : keeps_shapes old.flashes.keep ≡ true → pieces_at new.macros ≡ (λ name. option_or (macro_set name c) (pieces_at old.macros name))
+  pub apertures : keeps_shapes old.flashes.keep ≡ true
+      → defined_at new.apertures ≡ (λ n. option_or (defined_set old.current.unit (pieces_at old.macros) n c) (defined_at old.apertures n))
   pub flashes : Adds old.flashes (added_flashes (state_of old) c) new.flashes
 
 -- `P` holds where the stop is a broken rule; nothing is said where memory ran out

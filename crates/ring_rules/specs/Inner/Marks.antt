@@ -6,15 +6,15 @@ use Rattle.grid_units.specs.declared.profile.Profile.{Profile}
 use Rattle.pad_shapes.specs.Holding.{covers_hole}
 use Rattle.ring_rules.specs.Findings.{is_refused_slot}
 use Rattle.ring_rules.specs.Spots.{spot_at}
-use Rattle.ring_rules.specs.declared.spots.Spot.{Spot}
+use Rattle.ring_rules.specs.declared.ring_index.RingIndex.{RingIndex}
 
 -- a pad gives a hole its ring: the profile does not refuse the hole as a slot, and the pad covers it together with the ring round it
 unfoldable pub gives_ring : {S : Type 0} → (S → GridPoint → ℕ → Bool) → Profile → ℕ → GridHole → S → Bool
 gives_ring covers profile ring h pad = not (is_refused_slot profile h) && covers_hole covers ring h pad
 
--- a pad gives its ring to the hole of the spot at an index
-abbrev pub gives_ring_at : {S : Type 0} → (S → GridPoint → ℕ → Bool) → Profile → ℕ → List Spot → S → ℕ → Bool
-gives_ring_at covers profile ring spots pad i = gives_ring covers profile ring (spot_at spots i).hole pad
+-- a pad gives its ring to the hole of a spot of an index, by the rules of the index
+abbrev pub gives_ring_at : {S : Type 0} → (S → GridPoint → ℕ → Bool) → RingIndex → S → ℕ → Bool
+gives_ring_at covers index pad i = gives_ring covers index.rules.profile index.rules.ring (spot_at index.cells.spots i).hole pad
 
 -- the spot at an index is still marked; past the end of the marks there is none
 abbrev pub is_marked : List Bool → ℕ → Bool

@@ -4,6 +4,8 @@ use Rattle.std.specs.List.{count_by}
 use Rattle.grid_units.specs.Holes.{GridRules}
 use Rattle.grid_units.specs.Spans.{LayerSpan}
 use Rattle.grid_units.specs.declared.profile.Profile.{Profile}
+use Rattle.board.specs.Boards.{BoardView}
+use Rattle.layer_features.specs.Kept.{keeps_drawn, keeps_rows}
 use Rattle.layer_features.specs.declared.keep.Keep.{Keep}
 use Rattle.manifest.specs.declared.Entry.{Entry}
 use Rattle.manifest.specs.declared.Role.{Role}
@@ -11,7 +13,11 @@ use Rattle.package_check.specs.CheckViews.{CheckView, setting_of}
 use Rattle.package_check.specs.Checking.{HasJudged, TakesCopper}
 use Rattle.package_check.specs.Holding.{HasTaken, TakesFile, is_kind, setting_of as reader_setting}
 use Rattle.package_check.specs.OpenFiles.{HasOpened, HasOpenedCopper}
-use Rattle.package_check.specs.Package.{FileView, Setting, is_copper}
+use Rattle.package_check.specs.Boards.{IsBoard, IsDrawnBoard, IsFlashedBoard}
+use Rattle.package_check.specs.Package.{FileView, IsReport, Setting, is_copper}
+use Rattle.package_check.specs.Reports.{ReportView}
+use Rattle.package_check.specs.Soundness.{IsSound}
+use Rattle.package_check.specs.SoundnessAsRead.{AreLegal}
 use Rattle.package_check.specs.declared.open_file.OpenFile.{OpenFile}
 use Rattle.package_check.specs.declared.package_reader.PackageReader.{PackageReader}
 use Rattle.ringcheck_files.specs.LoaderRelation.{Relation, file_limit, too_long, within}
@@ -121,3 +127,17 @@ abbrev pub OfCheckedCopper : Relation → List Entry → CheckView → Type 0 �
 OfCheckedCopper has entries before Risen (Ok after) = LoadsCopperTo has entries before after (length entries)
 OfCheckedCopper has entries before Risen (Err halt) = (end : ℕ) × EndsAt has entries Risen end (Some halt) × (last : CheckView)
     × LoadsCopperTo has entries before last end
+
+-- ---- what comes of all files
+
+-- the board of these files, with this kept of them
+pub record IsKeptBoard (keep : Keep) (board : BoardView) (all : List FileView) : Type 0 where
+  pub is : IsBoard all board
+  pub flashed : keeps_rows keep ≡ true → IsFlashedBoard all board
+  pub drawn : keeps_drawn keep ≡ true → IsDrawnBoard all board
+
+-- the report of the check of these files, each of which is of the profile; without a finding they are sound
+pub record IsCheckReport (rules : GridRules) (report : ReportView) (all : List FileView) : Type 0 where
+  pub is : IsReport all rules report
+  pub legal : AreLegal all
+  pub sound : report.findings ≡ [] → IsSound all rules

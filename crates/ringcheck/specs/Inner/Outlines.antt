@@ -1,5 +1,5 @@
 -- The file of an outline while it is loaded.
-use Rattle.std.specs.Prelude.{◌≡◌, ℕ, List, Option, Result, Ok, Err}
+use Rattle.std.specs.Prelude.{◌≡◌, [], ℕ, List, Option, Some, None, Result, Ok, Err}
 use Rattle.std.specs.Global.{Vec}
 use Rattle.std.specs.Io.KnownBytes.{Appends}
 use Rattle.pad_shapes.specs.declared.drawn.Drawn.{Drawn}
@@ -10,11 +10,13 @@ use Rattle.ringcheck.specs.declared.outlines.NoOutline.{NoOutline}
 use Rattle.ringcheck.specs.declared.outlines.NoOutline.TheVariants as none
 use Rattle.ringcheck.specs.Outlining.{HasOutline, RefusedOutline, outline_line}
 
--- what came of the file of an outline: what it draws, or why there is none
-abbrev pub OfOutline : Relation → List ℕ → Type 0 → Result (Vec Drawn) NoOutline → Type 0
-OfOutline has file Risen (Ok outline) = HasOutline has file outline.items
-OfOutline has file Risen (Err (none.Refused why)) = RefusedOutline has file why
-OfOutline has file Risen (Err none.Unread) = Risen
+-- what came of the file of an outline, if one is named: what it draws, or why there is none
+abbrev pub OfOutline : Relation → Option (List ℕ) → Type 0 → Result (Vec Drawn) NoOutline → Type 0
+OfOutline has None Risen (Ok outline) = outline.items ≡ []
+OfOutline has None Risen (Err why) = ⊥
+OfOutline has (Some file) Risen (Ok outline) = HasOutline has file outline.items
+OfOutline has (Some file) Risen (Err (none.Refused why)) = RefusedOutline has file why
+OfOutline has (Some file) Risen (Err none.Unread) = Risen
 
 -- what a status says where it was printed why there is no outline
 abbrev pub AfterNoOutline : NoOutline → Option (List ℕ) → Option (List ℕ) → Status → Type 0

@@ -1,10 +1,10 @@
-use Rattle.board.proofs.Common.{◌≡◌, ◌<◌, ◌≤◌, Option, Bor, List, [], get_or, length, map, sym, subst, ap, ◌∙◌, arith, flat_map, get_or-map, length-map, layer_findings, AreBestPads, BestPad}
+use Rattle.board.proofs.Common.{Bool, Drilled, ◌++◌, enumerate_from, filter, finding_of, is_ring_finding, ◌≡◌, ◌<◌, ◌≤◌, Option, Bor, List, [], get_or, length, map, sym, subst, ap, ◌∙◌, arith, flat_map, get_or-map, length-map, layer_findings, AreBestPads, BestPad}
 use Rattle.std.specs.Global.{Vec}
 use Rattle.ring_rules.proofs.EnumeratedLists.{enumerated_all, flat_listed_more}
 use Rattle.board.proofs.lacking.ring_findings_from_bests.Goals as goal
 
-pub add_lacking-requires : goal.add_lacking-requires
-add_lacking-requires g c =
+pub lacking_by-requires : goal.lacking_by-requires
+lacking_by-requires g c =
     let pads = map (λ (pads : Bor (List g.row.S.Denot)). pads.now) c.args.layers.now in
     let bests = c.args.bests.now in
     let layer = c.loop-layer.layer in
@@ -23,7 +23,9 @@ loop-layer-preserved g c =
     let size = c.requires.size in
     let more = length-map c.args.bests.now (λ (layer_bests : Vec (Option BestPad)). layer_bests.items) in
     let inside : layer < length pads = omega (arith, size, more, c.loop-layer-test.true) in
-    c.in_ok-add_lacking.ensures
+    let test : Drilled → Bool = is_ring_finding g.S.PadShape.covers c.args.rules.profile c.args.rules.ring layer (get_or pads layer []) in
+    (c.in_ok-layer_findings.ensures test (c.deref-in-loop-layer.ensures.value ∙ c.in_ok-lacking.ensures)
+    ∙ (λ j. c.loop-layer.findings.items ++ map (finding_of (c.profile.ensures j) layer) (filter (λ hole. test hole.1) (enumerate_from 0 c.args.holes.now))))
     ∙ flat_listed_more (λ layer. layer_findings g.S.PadShape.covers c.args.rules.profile c.args.rules.ring c.args.holes.now layer.0 layer.1) c.loop-layer.findings.items pads layer [] inside c.loop-layer.invariant
 
 pub returns : goal.returns

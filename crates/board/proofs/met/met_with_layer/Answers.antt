@@ -14,8 +14,8 @@ loop-hole-preserved g c =
       | then-needs_ring w ↦
           hole_by_best g.S.PadShape.covers c.args.profile (map (λ pads. pads.now) c.args.layers.now) (get_or (map (λ pads. pads.now) c.args.layers.now) c.args.layer []) c.args.holes.now c.args.bests.now c.args.layer c.loop-hole.hole c.index-holes-hole.result w.index-bests-hole.result c.loop-hole.met c.if-needs_ring.met
           refl c.requires.bests c.loop-hole-test.true c.index-holes-hole.is w.index-bests-hole.is (sym c.needs_ring.ensures ∙ w.if-needs_ring.true)
-          (ap (λ (m : RingsMet). m.ring) w.met-is ∙ (w.with_ring-met.ensures.ring ∙ ap (with_length c.loop-hole.met.ring) w.ring_of.ensures))
-          (ap (λ (m : RingsMet). m.in_pads) w.met-is ∙ (w.with_ring-met.ensures.held ∙ ap (with_length_in_pads c.loop-hole.met.in_pads) w.ring_of.ensures))
+          (ap (λ (m : RingsMet). m.ring) w.met-is ∙ (w.least.ensures ∙ ap (with_length c.loop-hole.met.ring) w.ring_of-ring.ensures))
+          (ap (λ (m : RingsMet). m.in_pads) w.met-is ∙ (w.with_ring_in_pads.ensures ∙ ap (with_length_in_pads c.loop-hole.met.in_pads) w.ring_of-ring.ensures))
           c.loop-hole.invariant
       | else-needs_ring w ↦
           subst (AreLeast (NeedsRingBefore c.args.layer (c.loop-hole.hole + 1) c.args.holes.now) (HasRing g.S.PadShape.covers c.args.profile (map (λ pads. pads.now) c.args.layers.now) c.args.holes.now)) (sym w.met-is)

@@ -1,6 +1,5 @@
 use Rattle.board_report.proofs.Common.{Option, rules, subst}
 use Rattle.board.specs.NearestHoles.{IsNearestOf, IsPair}
-use Rattle.board.specs.declared.nearest.Nearest.{Nearest}
 use Rattle.board_report.proofs.HolePlacesLemmas.{no_pair}
 use Rattle.board_report.proofs.places.gap_line.Goals as goal
 

@@ -1,14 +1,8 @@
 -- One part that makes no contour stands for parts that make none.
 use Rattle.layer_features.proofs.Common.{◌≡◌, ◌∙◌, List, [], ◌∷◌, ◌++◌, ap, subst, sym, true, Part, starts_no_pad, MakeSameContour}
 use Rattle.layer_features.specs.declared.part.Part.TheVariants as part
-use Rattle.layer_features.proofs.ForgettingLemmas.{forgotten, kept_all}
+use Rattle.layer_features.proofs.ForgettingLemmas.{forgotten}
 use Rattle.layer_features.proofs.forget.forget.Goals as goal
-
-pub returns-then-not-is_time_to_look : goal.returns-then-not-is_time_to_look
-returns-then-not-is_time_to_look c = kept_all c.args.parts.now.items
-
-pub returns-then-not-over : goal.returns-then-not-over
-returns-then-not-over c = kept_all c.args.parts.now.items
 
 pub returns : goal.returns
 returns c =

@@ -11,6 +11,4 @@ returns-in-Some c =
     ∙ ap (λ (o : Option ℕ). option_map (λ n. before_first ends_function (drop (n + 14) text)) o) (FindsLastNeedle-value text function_prefix (Some at) c.in-Some.ensures)
 
 pub returns-in-None : goal.returns-in-None
-returns-in-None c =
-    let text = c.args.text.now in
-    ap (λ (o : Option ℕ). option_map (λ n. before_first ends_function (drop (n + 14) text)) o) (FindsLastNeedle-value text function_prefix None c.in-None.ensures)
+returns-in-None c = ap (λ (o : Option ℕ). option_map (λ n. before_first ends_function (drop (n + 14) c.args.text.now)) o) (FindsLastNeedle-value c.args.text.now function_prefix None c.in-None.ensures)

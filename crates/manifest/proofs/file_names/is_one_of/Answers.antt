@@ -1,10 +1,8 @@
-use Rattle.manifest.proofs.Common.{◌≡◌, ◌∙◌, rules, tests, List, ℕ, Bor, list_any, bytes_eq, YieldsList-from_slice, any_from_yields_List}
+use Rattle.manifest.proofs.Common.{◌∙◌, rules, tests, List, ℕ, Bor, bytes_eq, YieldsList-from_slice, any_from_yields_List}
 use Rattle.manifest.proofs.NamesLemmas.{any_map}
 use Rattle.manifest.proofs.file_names.is_one_of.Goals as goal
 
 pub returns : goal.returns
 returns c =
-    let word = c.args.word.now in
-    let any : c.any.result ≡ list_any (λ (one : Bor (List ℕ)). bytes_eq one.now word) c.args.these.now =
-    any_from_yields_List (λ (one : Bor (List ℕ)). bytes_eq one.now word) _ _ c.any.result c.any.ensures.ran (YieldsList-from_slice c.args.these.now c.iter.ensures.rest) (λ x b q k. search (rules, tests)) in
-    any ∙ any_map (λ one. bytes_eq one word) (λ (one : Bor (List ℕ)). one.now) c.args.these.now
+    any_from_yields_List (λ (one : Bor (List ℕ)). bytes_eq one.now c.args.word.now) _ _ c.any.result c.any.ensures.ran (YieldsList-from_slice c.args.these.now c.iter.ensures.rest) (λ x b q k. search (rules, tests))
+    ∙ any_map (λ one. bytes_eq one c.args.word.now) (λ (one : Bor (List ℕ)). one.now) c.args.these.now

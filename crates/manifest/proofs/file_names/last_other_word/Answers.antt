@@ -1,17 +1,15 @@
-use Rattle.manifest.proofs.Common.{◌≡◌, ◌∙◌, [], ap, sym, rules, tests, List, ℕ, Bor, Option, None, reverse, not, unwrap_or, option_map, find, find_from_yields_List, is_copper_word}
+use Rattle.manifest.proofs.Common.{◌∙◌, [], ap, sym, rules, tests, List, ℕ, Bor, Option, None, not, unwrap_or, option_map, find_from_yields_List, is_copper_word}
 use Rattle.std.proofs.lemmas.Iterator.Adapters.{YieldsList-from_rev_slice}
 use Rattle.manifest.proofs.NamesLemmas.{last_found}
 use Rattle.manifest.proofs.file_names.last_other_word.Goals as goal
 
 pub returns-in-Some : goal.returns-in-Some
 returns-in-Some c =
-    let found : option_map (λ (w : Bor (Bor (List ℕ))). w.now) c.find.result ≡ find (λ (w : Bor (List ℕ)). not (is_copper_word w.now)) (reverse c.args.stem.now) =
-    find_from_yields_List (λ (w : Bor (List ℕ)). not (is_copper_word w.now)) _ _ c.find.result c.find.ensures.ran (YieldsList-from_rev_slice {s = c.rev.result} c.args.stem.now (cc)) (λ x b q k. search (rules, tests)) in
     ap (λ (o : Option (Bor (Bor (List ℕ)))). unwrap_or (option_map (λ (w : Bor (List ℕ)). w.now) (option_map (λ (w : Bor (Bor (List ℕ))). w.now) o)) []) (sym c.in-Some.is)
-    ∙ last_found (λ w. not (is_copper_word w)) c.args.stem.now _ found
+    ∙ last_found (λ w. not (is_copper_word w)) c.args.stem.now _
+    (find_from_yields_List (λ (w : Bor (List ℕ)). not (is_copper_word w.now)) _ _ c.find.result c.find.ensures.ran (YieldsList-from_rev_slice {s = c.rev.result} c.args.stem.now (cc)) (λ x b q k. search (rules, tests)))
 
 pub returns-in-None : goal.returns-in-None
 returns-in-None c =
-    let found : None ≡ find (λ (w : Bor (List ℕ)). not (is_copper_word w.now)) (reverse c.args.stem.now) =
-    find_from_yields_List (λ (w : Bor (List ℕ)). not (is_copper_word w.now)) _ _ None c.in-None.ensures.ran (YieldsList-from_rev_slice {s = c.rev.result} c.args.stem.now (cc)) (λ x b q k. search (rules, tests)) in
-    last_found (λ w. not (is_copper_word w)) c.args.stem.now None found
+    last_found (λ w. not (is_copper_word w)) c.args.stem.now None
+    (find_from_yields_List (λ (w : Bor (List ℕ)). not (is_copper_word w.now)) _ _ None c.in-None.ensures.ran (YieldsList-from_rev_slice {s = c.rev.result} c.args.stem.now (cc)) (λ x b q k. search (rules, tests)))

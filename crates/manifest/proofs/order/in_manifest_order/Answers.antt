@@ -5,7 +5,6 @@ use Rattle.manifest.proofs.order.in_manifest_order.Goals as goal
 
 pub returns : goal.returns
 returns c =
-    let sort = c.in_ok-sort_by_key.ensures in
-    is_in_order c.in_ok-entries.entries.items c.sort_by_key.new.self.items _ c.in_ok-entries.ensures sort.permutation
-    (IsNonDecreasingBy-from_sort_by_key key _ sort.sorted (λ a r q k. search (rules, tests)))
-    (sort.stable key (always_returns_same _ (λ a r. r ≡ key a.0.now) _ (λ a r q k. search (rules, tests))))
+    is_in_order c.in_ok-entries.entries.items c.sort_by_key.new.self.items _ c.in_ok-entries.ensures c.in_ok-sort_by_key.ensures.permutation
+    (IsNonDecreasingBy-from_sort_by_key key _ c.in_ok-sort_by_key.ensures.sorted (λ a r q k. search (rules, tests)))
+    (c.in_ok-sort_by_key.ensures.stable key (always_returns_same _ (λ a r. r ≡ key a.0.now) _ (λ a r q k. search (rules, tests))))

@@ -13,11 +13,9 @@ loop-file-preserved c =
 pub returns : goal.returns
 returns c =
     let items = c.args.files.now.items in
-    let before = c.deref_mut-file-items.result.now in
-    let after = c.loop-file.file-items in
     let value = c.deref_mut-file-items.ensures.value in
     let shared = c.in_ok-shared.shared in
     let f = λ (p : Proposal). place_checked_in (contains_by (nat_cmp (rank p.role)) shared) p in
     let same : (n : ℕ) → contains_by (nat_cmp n) shared ≡ nat_lt 1 (count_ranked items n) = λ n. c.in_ok-shared.ensures n ∙ ap (λ ps. nat_lt 1 (count_ranked ps n)) c.deref.ensures.value in
-    written f items after c.args.files.now.len (c.loop-file.auto.file-items ∙ ap length value) (sym (ap length value) ∙ c.deref_mut-file-items.ensures.len)
-    ∙ all_done f before after c.loop-file.file-index c.loop-file-test.false c.loop-file.invariant ∙ (λ k. map (λ (p : Proposal). place_checked_in (same (rank p.role) k) p) (value k))
+    written f items c.loop-file.file-items c.args.files.now.len (c.loop-file.auto.file-items ∙ ap length value) (sym (ap length value) ∙ c.deref_mut-file-items.ensures.len)
+    ∙ all_done f c.deref_mut-file-items.result.now c.loop-file.file-items c.loop-file.file-index c.loop-file-test.false c.loop-file.invariant ∙ (λ k. map (λ (p : Proposal). place_checked_in (same (rank p.role) k) p) (value k))

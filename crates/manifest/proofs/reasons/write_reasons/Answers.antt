@@ -7,6 +7,5 @@ loop-file-preserved c = row_more reason_row c.args.proposals.now c.loop-file.fil
 
 pub returns : goal.returns
 returns c =
-    let all = rows_all reason_row c.args.proposals.now c.loop-file.file-index _ _ c.loop-file-test.false c.loop-file.invariant in
-    let text = all ∙ ap (λ start. start ++ flat_map reason_row c.args.proposals.now) c.in_ok-table.ensures in
+    let text = rows_all reason_row c.args.proposals.now c.loop-file.file-index _ _ c.loop-file-test.false c.loop-file.invariant ∙ ap (λ start. start ++ flat_map reason_row c.args.proposals.now) c.in_ok-table.ensures in
     record { exact = subst (λ table. IfOk c.into_bytes.result (λ text. text.items ≡ table)) text c.into_bytes.ensures }

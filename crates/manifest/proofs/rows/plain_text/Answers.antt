@@ -9,6 +9,5 @@ returns-in_default c = elim (cases_Bool (is_utf8 c.args.bytes.now)) [
 
 pub returns-else-has_control : goal.returns-else-has_control
 returns-else-has_control c =
-    let text = is_utf8-from_IsUtf8 c.args.bytes.now c.in-Ok.ensures.cases.1 in
     let plain : list_any is_control c.args.bytes.now ≡ false = cc in
-    (rw (text, plain) refl, c.in-Ok.ensures.cases.0)
+    (rw (is_utf8-from_IsUtf8 c.args.bytes.now c.in-Ok.ensures.cases.1, plain) refl, c.in-Ok.ensures.cases.0)

@@ -3,9 +3,7 @@ use Rattle.manifest.proofs.EntryFields.{empty_plain, field_is, no_field}
 use Rattle.manifest.proofs.rows.text_field.Goals as goal
 
 pub returns-in-Some : goal.returns-in-Some
-returns-in-Some c =
-    let same = field_is (fields_of c.args.row.now) c.args.i _ c.in-Some.ensures.value in
-    rw (← same) c.plain_text.ensures
+returns-in-Some c = rw (← field_is (fields_of c.args.row.now) c.args.i _ c.in-Some.ensures.value) c.plain_text.ensures
 
 pub returns-in-None : goal.returns-in-None
 returns-in-None c =

@@ -9,11 +9,9 @@ loop-file-preserved c =
 pub returns : goal.returns
 returns c =
     let items = c.args.files.now.items in
-    let before = c.deref_mut-file-items.result.now in
-    let after = c.loop-file.file-items in
     let value = c.deref_mut-file-items.ensures.value in
     let stack : c.in_ok-stack.stack ≡ is_stack items = c.in_ok-stack.ensures ∙ ap is_stack c.deref-2.ensures.value in
     let count : c.copper_count-count.result ≡ count_by is_copper items = c.copper_count-count.ensures ∙ ap (count_by is_copper) c.deref.ensures.value in
     let f = layers_checked_in c.in_ok-stack.stack c.copper_count-count.result in
-    written f items after c.args.files.now.len (c.loop-file.auto.file-items ∙ ap length value) (sym (ap length value) ∙ c.deref_mut-file-items.ensures.len)
-    ∙ all_done f before after c.loop-file.file-index c.loop-file-test.false c.loop-file.invariant ∙ (λ k. map (layers_checked_in (stack k) (count k)) (value k))
+    written f items c.loop-file.file-items c.args.files.now.len (c.loop-file.auto.file-items ∙ ap length value) (sym (ap length value) ∙ c.deref_mut-file-items.ensures.len)
+    ∙ all_done f c.deref_mut-file-items.result.now c.loop-file.file-items c.loop-file.file-index c.loop-file-test.false c.loop-file.invariant ∙ (λ k. map (layers_checked_in (stack k) (count k)) (value k))

@@ -3,15 +3,14 @@ use Rattle.manifest.proofs.EntryFields.{ill_formed, well_formed}
 use Rattle.manifest.proofs.validation.text_fields.Goals as goal
 
 pub returns : goal.returns
-returns c =
-    let n = sym c.len.ensures ∙ c.if-len-width.false in
-    let row = fields_of c.args.row.now in
-    let a = c.in_ok-text_field.ensures in
-    let b = c.in_ok-text_field-2.ensures in
-    let d = c.in_ok-text_field-3.ensures in
-    let e = c.in_ok-text_field-4.ensures in
-    let f = c.in_ok-text_field-5.ensures in
-    (well_formed row c.args.width n c.requires a.0 b.0 d.0 e.0 f.0, a.1, b.1, d.1, e.1, f.1)
+returns c = (
+  well_formed (fields_of c.args.row.now) c.args.width (sym c.len.ensures ∙ c.if-len-width.false) c.requires c.in_ok-text_field.ensures.0 c.in_ok-text_field-2.ensures.0 c.in_ok-text_field-3.ensures.0 c.in_ok-text_field-4.ensures.0 c.in_ok-text_field-5.ensures.0,
+  c.in_ok-text_field.ensures.1,
+  c.in_ok-text_field-2.ensures.1,
+  c.in_ok-text_field-3.ensures.1,
+  c.in_ok-text_field-4.ensures.1,
+  c.in_ok-text_field-5.ensures.1,
+)
 
 pub returns-in_err-text_field : goal.returns-in_err-text_field
 returns-in_err-text_field c = rw c.from_residual.ensures (ill_formed (fields_of c.args.row.now) c.args.width 0 c.in_err-text_field.ensures)

@@ -1,19 +1,17 @@
 use Rattle.std.proofs.Common.{◌≡◌, ◌+◌, ◌-◌, ◌∷◌, [], ℕ, true, false, List, inl, inr, length, refl, ap, sym, ◌∙◌, arith}
 use Rattle.std.specs.Prelude.{not}
 use Rattle.std.proofs.lemmas.List.{length-append}
-use Rattle.board_report.specs.BoardReport.{IsGapEntry}
+use Rattle.board_report.specs.BoardReport.{IsGapEntry, conflict_in, is_gap}
 use Rattle.board.specs.Boards.{board_findings}
 use Rattle.pad_shapes.specs.WidePads.{wide_pad_covers}
 use Rattle.board.specs.declared.FileSum.{FileSum}
 use Rattle.ring_rules.specs.declared.finding.Finding.{Finding}
 use Rattle.std.specs.List.{enumerate_from, filter, filter_map, list_any}
 use Rattle.board.specs.declared.FileSum.TheVariants as sum
-use Rattle.board_report.specs.BoardReport.{conflict_in}
 use Rattle.report.specs.declared.RoleConflict.{RoleConflict}
 use Rattle.std.proofs.lemmas.Slice.Zip.{AllZip-long}
 use Rattle.ring_rules.specs.Findings.{gap_findings, ring_findings}
 use Rattle.package_check.specs.WiderProfile.{is_called_plated, wide_rings}
-use Rattle.board_report.specs.BoardReport.{is_gap}
 use Rattle.package_check.proofs.WiderFindings.{gaps_among, gaps_are, rings_are}
 use Rattle.package_check.proofs.fewer.fewer_in_wide.Goals as goal
 
@@ -46,13 +44,11 @@ returns c all flashed is =
     let called = sym (called_from 0 board.files) ∙ sym (ap (list_any (λ (conflict : RoleConflict). not conflict.plated)) (c.deref.ensures.value ∙ is.conflicts)) in
     let (wide, read, found) = answers.reads (called ∙ (sym c.some_are_called_plated.ensures ∙ c.if-some_are_called_plated.false)) in
     let gaps = gap_findings rules.gap board.holes in
-    let all_gaps : filter is_gap (board_findings rules board) ≡ gaps =
-    gaps_among (ring_findings wide_pad_covers rules.profile rules.ring board.layers board.holes) gaps (rings_are wide_pad_covers rules.profile rules.ring board.layers board.holes) (gaps_are rules.gap board.holes) in
+    let all_gaps : filter is_gap (board_findings rules board) ≡ gaps = gaps_among (ring_findings wide_pad_covers rules.profile rules.ring board.layers board.holes) gaps (rings_are wide_pad_covers rules.profile rules.ring board.layers board.holes) (gaps_are rules.gap board.holes) in
     let as_many = AllZip-long (IsGapEntry board rules.gap) (filter is_gap (board_findings rules board)) report.gaps.items is.gaps in
     let gap_count : length report.gaps.items ≡ length gaps = omega (arith, as_many, ap length all_gaps) in
     let rings = c.in_ok-rings.ensures in
-    let wide_count : length wide.findings ≡ length c.in_ok-rings.rings.items + length gaps =
-    ap length found ∙ (length-append (wide_rings rules board) gaps ∙ ap (λ (fs : List Finding). length fs + length gaps) (sym rings)) in
+    let wide_count : length wide.findings ≡ length c.in_ok-rings.rings.items + length gaps = ap length found ∙ (length-append (wide_rings rules board) gaps ∙ ap (λ (fs : List Finding). length fs + length gaps) (sym rings)) in
     let first : c.len.result ≡ length report.rings.items = omega (arith, c.len.ensures, report.rings.ok.0) in
     let second : c.len-2.result ≡ length c.in_ok-rings.rings.items = omega (arith, c.len-2.ensures, c.in_ok-rings.rings.ok.0) in
     let fewer : c.saturating_sub.result ≡ (length report.rings.items + length report.gaps.items) - length wide.findings =

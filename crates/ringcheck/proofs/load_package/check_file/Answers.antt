@@ -7,17 +7,17 @@ use Rattle.ringcheck.proofs.load_package.check_file.Goals as goal
 no_piece : (sink : CheckSink) → CopperGoesOn sink sink []
 no_piece sink = λ first index layer span text h. subst (HasOpenedCopper first sink.check index layer span sink.file) (sym (append-nil text)) h
 
-pub returns-in-None-clause-taken : goal.returns-in-None-clause-taken
-returns-in-None-clause-taken g c = λ copper.
+pub returns-in_ok-end-in-Ok-None-clause-taken : goal.returns-in_ok-end-in-Ok-None-clause-taken
+returns-in_ok-end-in-Ok-None-clause-taken g c = λ copper.
     let entry = c.args.entry.now in
     let before = c.args.check in
     let index = c.args.index in
     let layer = c.args.layer in
     let read_in = setting_of before in
-    let (bytes, held, goes_on) = rw c.in-None.is at c.in_ok-hand_file.ensures.loaded in
+    let (bytes, held, goes_on) = rw (c.in-Ok-None.is, c.in-Ok-None.field-0-is) at c.hand_file.ensures.loaded in
     let start : CheckSink = record { check = c.begin-file.new.self; file = c.begin-file.result } in
     let opened = goes_on start [] (no_piece start) before index layer entry.span [] c.begin-file.ensures in
-    let ended = c.in_ok-end-in-None.ensures in (
+    let ended = c.in_ok-end-in-Ok-None.ensures in (
       (
         bytes,
         held,

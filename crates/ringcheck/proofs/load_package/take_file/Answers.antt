@@ -7,12 +7,12 @@ use Rattle.ringcheck.proofs.load_package.take_file.Goals as goal
 no_piece : (file : OpenFile) → GoesOn file file []
 no_piece file = λ reader index of span text h. subst (HasOpened reader index of span file) (sym (append-nil text)) h
 
-pub returns-in-None-clause-taken : goal.returns-in-None-clause-taken
-returns-in-None-clause-taken g c =
+pub returns-in_ok-end-in-Ok-None-clause-taken : goal.returns-in_ok-end-in-Ok-None-clause-taken
+returns-in_ok-end-in-Ok-None-clause-taken g c =
     let entry = c.args.entry.now in
-    let loaded = rw c.in-None.is at c.in_ok-hand_file.ensures.loaded in
+    let loaded = rw (c.in-Ok-None.is, c.in-Ok-None.field-0-is) at c.hand_file.ensures.loaded in
     let start : FileSink = record { file = c.begin-file.result } in (
       loaded.0,
       loaded.1,
-      c.in_ok-end-in-None.ensures.stands c.args.index entry.role entry.span loaded.0 entry.name (loaded.2 start [] (no_piece c.begin-file.result) c.args.reader.now c.args.index entry.role entry.span [] c.begin-file.ensures),
+      c.in_ok-end-in-Ok-None.ensures.stands c.args.index entry.role entry.span loaded.0 entry.name (loaded.2 start [] (no_piece c.begin-file.result) c.args.reader.now c.args.index entry.role entry.span [] c.begin-file.ensures),
     )

@@ -1,13 +1,11 @@
-use Rattle.ringcheck.proofs.Common.{Err, List, ℕ, refl, subst, Appends, IsBoard, Returns, PackageFault, measure_page}
-use Rattle.layer_features.specs.declared.keep.Keep.TheVariants as keep
+use Rattle.ringcheck.proofs.Common.{List, ℕ, refl, subst, Appends, measure_page}
 use Rattle.ringcheck.proofs.measures.measure.Goals as goal
 
-pub returns-clause-answers : goal.returns-clause-answers
-returns-clause-answers g c all named stands =
-    let board = c.in-Ok.board in
+pub returns : goal.returns
+returns g c all named read =
+    let board = c.args.board.now in
     let measure = c.in_ok-measure.measure in
     let contents = g.W.Write.contents in
-    let read = c.in-Ok.ensures.exact keep.Pads all stands in
     let is = c.in_ok-measure.ensures.exact in
     record {
       board = board;
@@ -18,6 +16,3 @@ returns-clause-answers g c all named stands =
       met = c.measured_passes.ensures c.args.order.profile all board measure.meets.ring measure.meets.gap read is.rings is.gaps;
       passed = refl;
     }
-
-pub returns-in-Err-File-clause-answers : goal.returns-in-Err-File-clause-answers
-returns-in-Err-File-clause-answers g c all named stands = c.refused.ensures all named (rw c.in-Err-File.field-0-is (subst (λ (f : PackageFault). Returns IsBoard all (Err f)) c.in-Err-File.field-0-is (c.in-Err-File.ensures.exact keep.Pads all stands)))

@@ -1,5 +1,5 @@
 -- What is kept of the layer is what it draws.
-use Rattle.ringcheck.proofs.Common.{◌∙◌, ℕ, List, [], Err, err_from_is_err_and, Strict}
+use Rattle.ringcheck.proofs.Common.{◌∙◌, ap, ℕ, List, [], Err, err_from_is_err_and, Strict}
 use Rattle.std.specs.Global.{Vec}
 use Rattle.grid_units.specs.Results.{Answers, IfFault}
 use Rattle.grid_units.specs.declared.fault.Fail.{Fail}
@@ -9,6 +9,7 @@ use Rattle.layer_image.specs.Holding.{ShowsLayerFaultIn, left_pads}
 use Rattle.layer_image.specs.Kept.{KeptLayer, ReadsKeptIn}
 use Rattle.layer_image.proofs.Pieces.{shown_read}
 use Rattle.pad_shapes.specs.declared.drawn.Drawn.{Drawn}
+use Rattle.layer_features.specs.DrawnCopper.{first_parts}
 use Rattle.layer_features.specs.declared.keep.Keep.TheVariants as keep
 use Rattle.ringcheck.specs.Outlining.{ReadsOutline}
 use Rattle.ringcheck.proofs.outlines.read_outline.Goals as goal
@@ -38,4 +39,4 @@ pub returns : goal.returns
 returns c =
     let text = c.args.text.now in
     let read = c.in_ok-layer.ensures.exact Strict keep.RowsAndDrawn [] text (c.in_ok-feed.ensures.ok Strict keep.RowsAndDrawn [] [] c.in_profile-reader.ensures) in
-    (read.0, read.1, c.into_rows-features.ensures.drawn ∙ read.2.drawn ∙ (c.strict_layers.ensures text read.0 read.1).drawn)
+    (read.0, read.1, c.into_rows-features.ensures.drawn ∙ read.2.drawn ∙ ap first_parts (c.strict_layers.ensures text read.0 read.1).drawn)

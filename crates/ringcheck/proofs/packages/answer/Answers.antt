@@ -1,34 +1,37 @@
-use Rattle.layer_features.specs.declared.keep.Keep.TheVariants as keep
-use Rattle.ringcheck.proofs.Common.{HasRisen, HasJudgedAll, HasTakenAll, Holds}
-use Rattle.ringcheck.specs.declared.jobs.Job.TheVariants as job
-use Rattle.ringcheck.proofs.Outcomes.{done_with}
+use Rattle.ringcheck.proofs.Common.{◌≡◌, ◌∙◌, List, ℕ, map, refl, FileView, HasFiles, Profile, file_limit, within, setting_in, sources}
+use Rattle.ringcheck.proofs.LoadSteps.{read_in}
+use Rattle.ringcheck.proofs.Outcomes.{names_loaded}
+use Rattle.ringcheck.proofs.packages.answer.Given as given
 use Rattle.ringcheck.proofs.packages.answer.Goals as goal
+use Rattle.ringcheck.proofs.packages.answer.Goals.{After-as_slice-names}
+
+-- the names of files that were loaded are those of their entries
+named : (g : given.Over) (c : After-as_slice-names g) (profile : Profile) (files : List (List ℕ)) → HasFiles (within file_limit (g.L.Loader.has c.args.loader.now)) c.args.entries.now files
+    → map (λ name. name.now) c.as_slice-names.result.now ≡ map (λ (source : FileView). source.name) (sources profile c.args.entries.now files)
+named g c profile files held = rw c.as_slice-names.ensures.value (c.in_ok-names.ensures ∙ names_loaded (within file_limit (g.L.Loader.has c.args.loader.now)) profile c.args.entries.now files held)
 
 pub returns-in-Ok-clause-answers : goal.returns-in-Ok-clause-answers
-returns-in-Ok-clause-answers g c listed =
-    let name = c.args.name.now in
-    let contents = g.W.Write.contents in
-    rw c.in-Check.is (done_with (g.L.Loader.has c.args.loader.now) c.in-Check.rules.profile c.args.entries.now (HasRisen (g.L.Loader.failed c.args.loader.now) (g.L.Loader.failed c.check_files.new.loader))
-    (Holds (job.Check c.in-Check.rules) name (contents c.args.out.now) (contents c.check.new.out)) (λ check all. HasJudgedAll check all c.in-Check.rules) c.in-Ok.check c.as_slice-names.result.now
-    (rw c.as_slice-names.ensures.value c.in_ok-names.ensures) (rw c.in-Ok.is at c.in_ok-check-in-Check.ensures) c.check.result (λ all names read_in. c.check.ensures.answers all c.in-Check.rules names))
+returns-in-Ok-clause-answers g c =
+    let (files, held, is) = rw c.in-Ok.is at c.in_ok-report-in-Check.ensures in
+    let same = named g (goal.at.returns-in-Ok-clause-answers g c).After-as_slice-names c.in-Check.rules.profile files held in
+    rw c.in-Check.is (files, held, c.in_ok-check-in-Ok.ensures _ c.in-Check.rules same is)
 
 pub returns-in-Ok-2-clause-answers : goal.returns-in-Ok-2-clause-answers
-returns-in-Ok-2-clause-answers g c listed =
-    let name = c.args.name.now in
-    let contents = g.W.Write.contents in
-    rw c.in-Measure.is (done_with (g.L.Loader.has c.args.loader.now) c.in-Measure.order.profile c.args.entries.now (HasRisen (g.L.Loader.failed c.args.loader.now) (g.L.Loader.failed c.take_files.new.loader))
-    (Holds (job.Measure c.in-Measure.order) name (contents c.args.out.now) (contents c.measure.new.out)) (λ reader. HasTakenAll reader keep.Pads) c.in-Ok-2.reader c.as_slice-names.result.now
-    (rw c.as_slice-names.ensures.value c.in_ok-names.ensures) (rw c.in-Ok-2.is at c.in_ok-reader-in-Measure.ensures.loaded) c.measure.result (λ all names read_in. c.measure.ensures.answers all names))
-
-pub returns-in-Report-clause-answers : goal.returns-in-Report-clause-answers
-returns-in-Report-clause-answers g c listed =
-    let had = rw c.in-Report.is at listed in
-    rw c.in-Report.is (c.report_files.ensures.answers had (rw c.as_slice-names.ensures.value c.in_ok-names.ensures))
+returns-in-Ok-2-clause-answers g c =
+    let (files, held, is) = rw c.in-Ok-2.is at c.in_ok-board-in-Measure.ensures in
+    let same = named g (goal.at.returns-in-Ok-2-clause-answers g c).After-as_slice-names c.in-Measure.order.profile files held in
+    rw c.in-Measure.is (files, held, c.in_ok-measure-in-Ok-2.ensures _ same is.is)
 
 pub returns-in-Ok-3-clause-answers : goal.returns-in-Ok-3-clause-answers
-returns-in-Ok-3-clause-answers g c listed =
-    let name = c.args.name.now in
-    let contents = g.W.Write.contents in
-    rw c.in-Draw.is (done_with (g.L.Loader.has c.args.loader.now) c.in-Draw.order.profile c.args.entries.now (HasRisen (g.L.Loader.failed c.args.loader.now) (g.L.Loader.failed c.take_files-in-Draw.new.loader))
-    (Holds (job.Draw c.in-Draw.order) name (contents c.args.out.now) (contents c.draw.new.out)) (λ reader. HasTakenAll reader keep.RowsAndDrawn) c.in-Ok-3.reader c.as_slice-names.result.now
-    (rw c.as_slice-names.ensures.value c.in_ok-names.ensures) (rw c.in-Ok-3.is at c.in_ok-reader-in-Draw.ensures.loaded) c.draw.result (λ all names read_in. c.draw.ensures.answers all names))
+returns-in-Ok-3-clause-answers g c =
+    let profile = c.in-Report.order.rules.profile in
+    let entries = c.args.entries.now in
+    let (files, held, is) = rw (c.in-Ok-3.is, c.kept_for-keep.ensures, c.profile.ensures) at c.in_ok-board-in-Report.ensures in
+    let same = named g (goal.at.returns-in-Ok-3-clause-answers g c).After-as_slice-names profile files held in
+    rw c.in-Report.is (files, held, c.in_ok-report-in-Ok-3.ensures _ same (read_in (setting_in profile entries) entries files) is)
+
+pub returns-in-Ok-4-clause-answers : goal.returns-in-Ok-4-clause-answers
+returns-in-Ok-4-clause-answers g c =
+    let (files, held, is) = rw c.in-Ok-4.is at c.in_ok-board-in-Draw.ensures in
+    let same = named g (goal.at.returns-in-Ok-4-clause-answers g c).After-as_slice-names c.in-Draw.profile files held in
+    rw c.in-Draw.is (files, held, c.in_ok-draw-in-Ok-4.ensures _ same (is.drawn refl))

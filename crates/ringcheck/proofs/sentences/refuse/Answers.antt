@@ -1,4 +1,4 @@
-use Rattle.ringcheck.proofs.Common.{◌∷◌, [], ℕ, true, false, List, Option, Some, None, codes, refl, IfSome, Appends, IfSome_then, Reason, IsSilent, Written}
+use Rattle.ringcheck.proofs.Common.{◌∷◌, [], ℕ, true, List, Option, Some, None, codes, inl, refl, IfSome, Appends, IfSome_then, Reason, IsSilent, Written}
 use Rattle.std.specs.Fmt.{◌++?◌}
 use Rattle.ringcheck_files.specs.Words.{PrintsUsage, sentence_line, usage_line}
 use Rattle.ringcheck_files.proofs.Appending.{appends_both}
@@ -15,9 +15,11 @@ of_line : (said : Option (List ℕ)) (P : List ℕ → Type 0) → IfSome (Some 
 of_line None P h = tt
 of_line (Some sentence) P h = h
 
-pub returns-in_ok-write : goal.returns-in_ok-write
-returns-in_ok-write g c = rw c.if-below.true (said_below _ c.args.reason _ _ _ c.in_ok-refuse_word.ensures c.in_ok-write.ensures.bytes refl)
+pub returns-in_ok-write-clause-says : goal.returns-in_ok-write-clause-says
+returns-in_ok-write-clause-says g c =
+    let said = g.S.Display.output c.args.said.now in
+    rw c.if-below.true (IfSome_then said (said_below said c.args.reason _ _ _ c.in_ok-refuse_word.ensures c.in_ok-write.ensures.bytes refl) (λ sentence h. inl (refl, h)))
 
-pub returns-in_ok-write-2 : goal.returns-in_ok-write-2
-returns-in_ok-write-2 g c =
-    rw c.if-below.false (IfSome_then (g.S.Display.output c.args.said.now) (of_line (g.S.Display.output c.args.said.now) _ c.in_ok-write-2.ensures.bytes) (λ sentence h. (c.in_ok-refuse_word.ensures, h)))
+pub returns-in_ok-write-2-clause-says : goal.returns-in_ok-write-2-clause-says
+returns-in_ok-write-2-clause-says g c =
+    rw c.if-below.false (IfSome_then (g.S.Display.output c.args.said.now) (of_line (g.S.Display.output c.args.said.now) _ c.in_ok-write-2.ensures.bytes) (λ sentence h. inl (refl, (c.in_ok-refuse_word.ensures, h))))

@@ -2,7 +2,8 @@ use Rattle.ringcheck_files.proofs.Common.{rules, arith, ◌≡◌, ◌∙◌, �
 use Rattle.std.specs.Prelude.{MatchOption}
 use Rattle.std.proofs.lemmas.Str.Pattern.{strip_prefix_char}
 use Rattle.grid_units.proofs.TrailingZeros.{length-places}
-use Rattle.ringcheck_files.proofs.SideLemmas.{behind_zero, below_one}
+use Rattle.grid_units.proofs.Spelled.{below_one}
+use Rattle.ringcheck_files.proofs.SideLemmas.{behind_zero}
 use Rattle.ringcheck_files.proofs.sides.push_decimals.Goals as goal
 
 pub push_str-requires : goal.push_str-requires

@@ -1,12 +1,9 @@
-use Rattle.gerber_text.proofs.Common.{[], ◌≡◌, None, Some, Err, sym, subst, ◌∙◌, Fail, ReadsUpToFault}
-use Rattle.gerber_text.proofs.FinishLemmas.{ends_keeps, keeps_err}
+use Rattle.gerber_text.proofs.Common.{[], ◌≡◌, Some, Err, sym, subst, ◌∙◌, Fail, ReadsUpToFault}
+use Rattle.gerber_text.proofs.FinishLemmas.{ends_keeps, keeps_err, never}
 use Rattle.gerber_text.proofs.reader.WordReader.outcome.Goals as goal
 
 same : (a b : Fail) → Some a ≡ Some b → a ≡ b
 same a b h = cc
-
-never : (a : Fail) → Some a ≡ None → ⊥
-never a h = cc
 
 pub returns-in-Some-clause-stands : goal.returns-in-Some-clause-stands
 returns-in-Some-clause-stands c profile text h = absurd (never c.in-Some.fail (sym c.in-Some.is ∙ h.sound))

@@ -5,8 +5,8 @@ use Rattle.layer_features.proofs.copper.Copper.new.Goals as goal
 
 pub returns : goal.returns
 returns c = none_met c.args.keep _ (λ i. record {
-  draw = c.new-pencil.ensures i;
-  parts = c.new-parts.ensures.items i;
+  draw = c.new.ensures i;
+  parts = c.new-2.ensures.items i;
   regions = 0;
-  clearing = c.none-clearing.ensures i;
-}) (c.new-kept.ensures.rows ∙ c.rows.ensures) c.new-kept.ensures.kept (c.new-drawing.ensures.asked ∙ c.draws.ensures) c.new-drawing.ensures.parts
+  clearing = c.none.ensures i;
+}) (c.new-3.ensures.rows ∙ c.rows.ensures) c.new-3.ensures.kept (c.new-4.ensures.asked ∙ c.draws.ensures) c.new-4.ensures.parts

@@ -1,14 +1,15 @@
 -- One command more was met: its flashes are added, and then its contours.
-use Rattle.layer_features.proofs.Common.{◌∙◌, ◌++◌, append_assoc, map, subst, CopperState, KeepsFeatures, contours_in, contour_feature, flash_feature, copper_state}
-use Rattle.layer_features.proofs.CopperLemmas.{met_more}
+use Rattle.layer_features.proofs.Common.{◌∙◌, ◌++◌, append_assoc, map, subst, CopperState, KeepsFeatures, contours_in, contour_feature, flash_feature, copper_state, selection}
+use Rattle.layer_features.proofs.CopperLemmas.{as_selected, met_more}
 use Rattle.layer_features.proofs.copper.Copper.take.Goals as goal
 
 pub returns : goal.returns
-returns c keep taken commands met own =
+returns c keep taken commands met is own =
     let command = c.args.command.now in
-    let s = copper_state c.draw.new.self in
+    let before = selection c.args.setting.now in
+    let s = copper_state before c.draw.new.self in
     let flashes = map (flash_feature s) c.args.flashes.now in
-    met_more keep taken c.args.self.now c.draw.new.self c.add_contours.new.self c.clear_where.new.self c.advance.new.self c.args.flashes.now commands command met own (record {
+    met_more before keep taken c.args.self.now c.draw.new.self c.add_contours.new.self c.clear_where.new.self c.advance.new.self c.args.flashes.now commands command met is.current (as_selected c.args.setting.now commands command c.args.flashes.now is own) (record {
       parts = c.in_ok-draw.ensures.parts;
       asked = c.draw.ensures.asked;
       state = c.draw.ensures.state;

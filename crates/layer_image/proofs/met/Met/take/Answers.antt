@@ -1,5 +1,6 @@
 -- The command is judged, and its flashes are those that the judge has added.
-use Rattle.layer_image.proofs.Common.{List, [], ◌∷◌, ◌++◌, ◌∙◌, refl, subst, sym, err_from_is_err_and, Command, without_places, flashes_of, without_flashes, HasMet}
+use Rattle.layer_image.proofs.Common.{List, [], ◌∷◌, ◌++◌, ◌∙◌, ap, refl, subst, sym, err_from_is_err_and, Command, without_places, flashes_of, without_flashes, HasMet}
+use Rattle.layer_state.specs.Shapes.{defined_numbered}
 use Rattle.layer_image.proofs.MetLemmas.{all_dropped, next_entry, own_flashes}
 use Rattle.layer_image.proofs.met.Met.take.Goals as goal
 
@@ -14,8 +15,10 @@ returns-clause-ok c keep taken before h =
     let all = before ++ e ∷ [] in
     let dropped = flashes_of (without_places before) in
     let scanned = c.in_ok-take.ensures.ok (without_flashes dropped) before h.scanned in
+    let now = c.current.ensures (without_flashes dropped) before h.scanned in
     record {
       scanned = all_dropped c.take.new.self c.clear_flashes.new.self dropped all scanned (c.clear_flashes.ensures.gone (without_flashes dropped) all scanned);
       copper = subst (λ (l : List Command). HasMet keep taken c.take-2.new.self l) (sym (next_entry before e))
-          (c.in_ok-take-2.ensures keep taken (without_places before) h.copper (c.flashes.ensures ∙ own_flashes c.take.new.self dropped all (without_places before) e.what scanned (next_entry before e) refl));
+          (c.in_ok-take-2.ensures keep taken (without_places before) h.copper (record { current = now; apertures = c.apertures.ensures (without_flashes dropped) all scanned refl ∙ ap defined_numbered (next_entry before e) })
+          (c.flashes.ensures ∙ own_flashes c.take.new.self dropped all (without_places before) e.what scanned (next_entry before e) refl));
     }

@@ -7,5 +7,5 @@ pub returns : goal.returns
 returns c keep taken before place byte h = record {
   scanned = text_dropped c.text.new.self before place byte c.args.kind c.args.text.now (c.in_ok-text.ensures (without_flashes (flashes_of (without_places before))) before place byte h.scanned);
   copper = subst (λ (l : List Command). HasMet keep taken c.take_text.new.self l) (sym (after_text before place byte (text_command c.args.kind c.args.text.now)))
-      (c.in_ok-take_text.ensures keep taken (without_places before) c.args.kind c.args.text.now h.copper);
+      (c.in_ok-take_text.ensures keep taken (without_places before) c.args.kind c.args.text.now h.copper (c.current.ensures (without_flashes (flashes_of (without_places before))) before h.scanned));
 }

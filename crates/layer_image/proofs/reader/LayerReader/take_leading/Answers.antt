@@ -1,6 +1,6 @@
 -- The operation is judged, and its commands are gone.
-use Rattle.layer_image.proofs.Common.{◌≡◌, ◌++◌, sym, ap, subst, ◌∙◌, err_from_is_err_and, WordReader, StandsIn, held_entries, passed_entries, keeps_commands}
-use Rattle.layer_image.proofs.Pieces.{gone_shown, none_kept}
+use Rattle.layer_image.proofs.Common.{◌++◌, sym, ap, ◌∙◌, err_from_is_err_and, passed_entries, keeps_commands}
+use Rattle.layer_image.proofs.Pieces.{gone_shown, none_kept, with_same_words}
 use Rattle.layer_image.proofs.reader.LayerReader.take_leading.Goals as goal
 
 pub returns-in_err-operate-in-Some-clause-err : goal.returns-in_err-operate-in-Some-clause-err
@@ -25,30 +25,11 @@ returns-in_ok-operate-in-Some-clause-ok c profile keep taken text h =
     }
 
 -- where no operation was passed, nothing has changed
-pub returns-in-None-clause-err : goal.returns-in-None-clause-err
-returns-in-None-clause-err c profile keep taken text h =
-    let same : c.pass_operation.new.self ≡ c.args.self.now.words = c.in-None.ensures.none in
-    c.take_other.ensures.err profile keep taken text (record {
-      sound = h.sound;
-      same = h.same;
-      same_profile = h.same_profile;
-      gone = h.gone;
-      words = subst (λ (w : WordReader). StandsIn w profile h.gone text) (sym same) h.words;
-      none = ap held_entries same ∙ h.none;
-      content = h.content;
-      kept = h.kept;
-    })
+pub returns-in_err-take_other-in-None-clause-err : goal.returns-in_err-take_other-in-None-clause-err
+returns-in_err-take_other-in-None-clause-err c profile keep taken text h =
+    let p = err_from_is_err_and c.from_residual-in_err-take_other-in-None.result c.from_residual-in_err-take_other-in-None.ensures.1 in
+    rw (p.1, p.2) (c.in_err-take_other-in-None.ensures.err profile keep taken text (with_same_words c.args.self.now _ profile keep taken text c.in-None.ensures.none h))
 
-pub returns-in-None-clause-ok : goal.returns-in-None-clause-ok
-returns-in-None-clause-ok c profile keep taken text h =
-    let same : c.pass_operation.new.self ≡ c.args.self.now.words = c.in-None.ensures.none in
-    c.take_other.ensures.ok profile keep taken text (record {
-      sound = h.sound;
-      same = h.same;
-      same_profile = h.same_profile;
-      gone = h.gone;
-      words = subst (λ (w : WordReader). StandsIn w profile h.gone text) (sym same) h.words;
-      none = ap held_entries same ∙ h.none;
-      content = h.content;
-      kept = h.kept;
-    })
+pub returns-in_ok-take_other-in-None-clause-ok : goal.returns-in_ok-take_other-in-None-clause-ok
+returns-in_ok-take_other-in-None-clause-ok c profile keep taken text h =
+    c.in_ok-take_other-in-None.ensures.ok profile keep taken text (with_same_words c.args.self.now _ profile keep taken text c.in-None.ensures.none h)

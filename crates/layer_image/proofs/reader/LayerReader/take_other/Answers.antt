@@ -1,6 +1,6 @@
 -- The text is met, and its command is gone.
-use Rattle.layer_image.proofs.Common.{◌≡◌, ℕ, List, [], ◌∷◌, ◌++◌, sym, ap, subst, ◌∙◌, WordReader, StandsIn, held_entries, passed_text, text_entries, keeps_commands, text_command, item_entries, HasContent}
-use Rattle.layer_image.proofs.Pieces.{none_kept}
+use Rattle.layer_image.proofs.Common.{ℕ, List, [], ◌∷◌, ◌++◌, sym, ap, subst, ◌∙◌, passed_text, text_entries, keeps_commands, text_command, item_entries, HasContent}
+use Rattle.layer_image.proofs.Pieces.{none_kept, with_same_words}
 use Rattle.layer_image.proofs.reader.LayerReader.take_other.Goals as goal
 
 pub returns-in_ok-text-in-Some-clause-ok : goal.returns-in_ok-text-in-Some-clause-ok
@@ -21,28 +21,8 @@ returns-in_ok-text-in-Some-clause-ok c profile keep taken text h =
 -- where no text was passed, nothing has changed
 pub returns-in-None-clause-err : goal.returns-in-None-clause-err
 returns-in-None-clause-err c profile keep taken text h =
-    let same : c.pass_text.new.self ≡ c.args.self.now.words = c.in-None.ensures.none in
-    c.take_part-in-None.ensures.err profile keep taken text (record {
-      sound = h.sound;
-      same = h.same;
-      same_profile = h.same_profile;
-      gone = h.gone;
-      words = subst (λ (w : WordReader). StandsIn w profile h.gone text) (sym same) h.words;
-      none = ap held_entries same ∙ h.none;
-      content = h.content;
-      kept = h.kept;
-    })
+    c.take_part-in-None.ensures.err profile keep taken text (with_same_words c.args.self.now _ profile keep taken text c.in-None.ensures.none h)
 
 pub returns-in-None-clause-ok : goal.returns-in-None-clause-ok
 returns-in-None-clause-ok c profile keep taken text h =
-    let same : c.pass_text.new.self ≡ c.args.self.now.words = c.in-None.ensures.none in
-    c.take_part-in-None.ensures.ok profile keep taken text (record {
-      sound = h.sound;
-      same = h.same;
-      same_profile = h.same_profile;
-      gone = h.gone;
-      words = subst (λ (w : WordReader). StandsIn w profile h.gone text) (sym same) h.words;
-      none = ap held_entries same ∙ h.none;
-      content = h.content;
-      kept = h.kept;
-    })
+    c.take_part-in-None.ensures.ok profile keep taken text (with_same_words c.args.self.now _ profile keep taken text c.in-None.ensures.none h)

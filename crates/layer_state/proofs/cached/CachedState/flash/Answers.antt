@@ -10,12 +10,12 @@ pub returns : goal.returns
 returns c =
     let cached = c.args.self.now in
     let l = cached.cached.lengths in
-    let x : FitsSigned w64 cached.state.x = search rules in
-    let y : FitsSigned w64 cached.state.y = search rules in
+    let x : FitsSigned w64 cached.state.current.x = search rules in
+    let y : FitsSigned w64 cached.state.current.y = search rules in
     let named_x : FitsSigned w64 c.unwrap_or-across.result = search rules in
     let named_y : FitsSigned w64 c.unwrap_or-up.result = search rules in
-    let across = named c.args.x c.unwrap_or-across.result cached.state.x named_x x c.unwrap_or-across.ensures in
-    let up = named c.args.y c.unwrap_or-up.result cached.state.y named_y y c.unwrap_or-up.ensures in
+    let across = named c.args.x c.unwrap_or-across.result cached.state.current.x named_x x c.unwrap_or-across.ensures in
+    let up = named c.args.y c.unwrap_or-up.result cached.state.current.y named_y y c.unwrap_or-up.ensures in
     let at = c.point-at.ensures ∙ (λ k. point_of l (across k) (up k)) in
     flash_is_legal (state_of cached.state) (flash_count cached.state.flashes) l cached.cached.what c.args.action c.args.x c.args.y c.args.i c.args.j _ l.near (cached.cached_values.0 c.if-not-self.false) (cached.cached_values.1 c.if-not-self-2.false)
     (sym c.is_flash.ensures ∙ c.if-not-is_flash.false) (cc) (omega arith)

@@ -8,7 +8,7 @@ use Rattle.layer_state.proofs.scan.Scan.operate.Goals as goal
 
 pub returns-in-Ok-clause-ok : goal.returns-in-Ok-clause-ok
 returns-in-Ok-clause-ok c parts before h =
-    let passed = c.args.passed in
+    let passed = c.args.passed.now in
     let found = passed.operation in
     let old = c.args.self.now in
     let new : Scan = record { state = c.operate.new.self; file_function = old.file_function } in
@@ -21,7 +21,7 @@ returns-in-Ok-clause-ok c parts before h =
 
 pub returns-in-Err-clause-refused : goal.returns-in-Err-clause-refused
 returns-in-Err-clause-refused c parts before h =
-    let passed = c.args.passed in
+    let passed = c.args.passed.now in
     let found = passed.operation in
     let old = c.args.self.now in
     let new : Scan = record { state = c.operate.new.self; file_function = old.file_function } in

@@ -32,8 +32,7 @@ returns-in_err-feed_chunk-clause-err c = λ text stands.
     let rest = chunks_rest c.next.new.self in
     let so_far = c.loop-chunk.invariant.3 text stands in
     let parts = append_assoc so_far.0 chunk rest ∙ (ap (λ (t : List ℕ). so_far.0 ++ t) (sym c.in-Some.ensures.steps.1.0) ∙ so_far.2) in
-    let whole : ((text ++ so_far.0) ++ chunk) ++ rest ≡ text ++ c.args.piece.now =
-    ap (λ (t : List ℕ). t ++ rest) (append_assoc text so_far.0 chunk) ∙ (append_assoc text (so_far.0 ++ chunk) rest ∙ ap (λ (t : List ℕ). text ++ t) parts) in
+    let whole : ((text ++ so_far.0) ++ chunk) ++ rest ≡ text ++ c.args.piece.now = ap (λ (t : List ℕ). t ++ rest) (append_assoc text so_far.0 chunk) ∙ (append_assoc text (so_far.0 ++ chunk) rest ∙ ap (λ (t : List ℕ). text ++ t) parts) in
     rw (p.1, p.2)
     (fault_stays_in_longer c.args.self.now.rules.profile (c.readings_in_profiles.ensures.stays c.args.self.now.rules.profile) ((text ++ so_far.0) ++ chunk) rest (text ++ c.args.piece.now) c.in_err-feed_chunk.field-0.0 whole
     (subst (λ (r : GridRules). IfFault (ShowsLayerFaultIn r.profile ((text ++ so_far.0) ++ chunk)) c.in_err-feed_chunk.field-0.0) c.loop-chunk.invariant.5 (c.in_err-feed_chunk.ensures.err (text ++ so_far.0) so_far.1)))

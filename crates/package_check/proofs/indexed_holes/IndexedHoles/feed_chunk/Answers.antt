@@ -18,8 +18,7 @@ returns-clause-ok c = λ text before.
     let read = c.clear_pads.ensures.gone profile keep.Pads before.taken whole (c.in_ok-feed.ensures.ok profile keep.Pads before.taken text before.read) in
     let left : List WidePad = if c.are_forgotten.result then [] else before.taken in
     let tried = c.in_ok-try_all.ensures.tried left (c.forget_where.ensures.tried c.args.layer before.taken before.tried) in
-    let all : left ++ (map plain c.pads.result.now ++ c.wide_pads.result.now) ≡ standing_pads reader before.taken =
-    λ i. (if c.are_forgotten.ensures i then [] else before.taken) ++ (map plain (c.pads.ensures i) ++ c.wide_pads.ensures i) in
+    let all : left ++ (map plain c.pads.result.now ++ c.wide_pads.result.now) ≡ standing_pads reader before.taken = λ i. (if c.are_forgotten.ensures i then [] else before.taken) ++ (map plain (c.pads.ensures i) ++ c.wide_pads.ensures i) in
     record {
       taken = standing_pads reader before.taken;
       read = subst (λ (q : Profile). LayerStands c.clear_pads.new.self q keep.Pads (standing_pads reader before.taken) whole) (sym (ap (λ (r : GridRules). r.profile) rules)) read;

@@ -14,8 +14,7 @@ returns-clause-judged c = λ text before.
     let old = c.args.self.now in
     let mid = c.forget_where.new.self in
     let left = left_pads c.args.reader before.taken in
-    let tried : HasTriedIn mid.holes mid.index c.args.layer left mid.search =
-    subst (λ (b : Bool). HasTriedIn mid.holes mid.index c.args.layer (if b then [] else before.taken) mid.search) c.are_forgotten.ensures (c.forget_where.ensures.tried c.args.layer before.taken before.tried) in
+    let tried : HasTriedIn mid.holes mid.index c.args.layer left mid.search = subst (λ (b : Bool). HasTriedIn mid.holes mid.index c.args.layer (if b then [] else before.taken) mid.search) c.are_forgotten.ensures (c.forget_where.ensures.tried c.args.layer before.taken before.tried) in
     let read = c.in_ok-rest.ensures.exact old.rules.profile keep.Pads before.taken text before.read in
     let there = c.judge_rest-judged.ensures.judged text left (subst (λ (q : Profile). ReadsKeptIn q keep.Pads left text (Ok c.in_ok-rest.rest)) (sym (ap (λ (r : GridRules). r.profile) c.forget_where.ensures.rules)) read) tried in
     subst (λ (hs : List Drilled). Answers {T = Judged} (λ x. x) (JudgesCopper old.rules hs c.args.layer text) c.judge_rest-judged.result) c.forget_where.ensures.holes

@@ -1,5 +1,0 @@
-use Rattle.layer_features.proofs.Common.{◌≡◌, take}
-use Rattle.layer_features.proofs.macros.copy_of.Given as goal
-
-abbrev pub invariant-loop-text : goal.invariant-loop-text
-invariant-loop-text l = l.copies.items ≡ take l.text-index l.texts

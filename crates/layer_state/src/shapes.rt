@@ -1,0 +1,99 @@
+//! The shapes that macros give apertures.
+
+ghost use Rattle.std.specs.Prelude.{◌≡◌, ◌+◌, length, nat_le, sum_by, IfOk};
+ghost use Rattle.std.specs.Option.{option_copied};
+ghost use Rattle.layer_state.specs.Shapes.{by_macro, primitives_shape, within_limits};
+ghost use Rattle.macro_shapes.specs.Macros.{fields_of};
+
+use gerber_text::Pieces;
+use grid_units::{Text, Unit};
+use macro_shapes::{Macro, macro_shape as shape_of_primitives, read_macro, read_primitives};
+use pad_shapes::{Rounded, SharedRounded};
+use std::alloc::{AllocError, Global};
+
+/// The length of the longest macro that gives a shape, in bytes.
+const MAX_MACRO_LEN: usize = 4_096;
+
+/// The greatest number of an aperture that has the shape of a macro.
+const MAX_SHAPE_NUMBER: u32 = 9_999;
+
+/// The bytes of a text, if there is one.
+pub(crate) fn bytes_of(text: &Option<Text>) -> Option<&[u8]>
+    ensures { option_copied result ≡ text.now }
+{
+    Some(text.as_ref()?.bytes())
+}
+
+/// Whether a macro is no longer than the longest that gives a shape, counting the `*` after each piece.
+fn is_short(texts: &[Text]) -> bool
+    ensures { result ≡ nat_le (sum_by (λ piece. length piece + 1) texts.now) 4096 }
+{
+    let mut left = MAX_MACRO_LEN;
+    for text in texts {
+        let len = text.bytes().len();
+        if left <= len {
+            return false;
+        }
+        left -= len + 1;
+    }
+    true
+}
+
+/// The macro that an aperture of this number names, where both are within their limits.
+pub(crate) fn within_limits(number: u32, pieces: Option<&Pieces>) -> Option<&Pieces>
+    ensures { option_copied result ≡ within_limits number (option_copied pieces.entry) }
+{
+    let pieces = pieces?;
+    if number <= MAX_SHAPE_NUMBER && is_short(pieces.texts()) {
+        Some(pieces)
+    } else {
+        None
+    }
+}
+
+/// The shape that a macro of these pieces makes, where a unit was named before it.
+pub(crate) fn by_macro(
+    alloc: Global,
+    unit: Option<Unit>,
+    pieces: Option<&Pieces>,
+    parameters: Option<&[u8]>,
+) -> Result<Option<SharedRounded>, AllocError>
+    ensures { IfOk result (λ shape. shape ≡ by_macro unit (option_copied pieces.entry) (option_copied parameters.entry)) }
+{
+    match (unit, pieces) {
+        (Some(unit), Some(pieces)) => match macro_shape(alloc, unit, pieces, parameters)? {
+            Some(shape) => Ok(Some(SharedRounded::new(alloc, shape)?)),
+            None => Ok(None),
+        },
+        _ => Ok(None),
+    }
+}
+
+/// The primitives of a macro with the parameters of an aperture, where each field has an exact value.
+fn macro_fields(
+    alloc: Global,
+    pieces: &Pieces,
+    parameters: Option<&[u8]>,
+) -> Result<Option<Macro>, AllocError>
+    ensures { IfOk result (λ answer. answer ≡ fields_of pieces.now (option_copied parameters.entry)) }
+{
+    read_macro(alloc, pieces.texts(), parameters)
+}
+
+/// The shape of a macro with the parameters of an aperture, where it has one.
+fn macro_shape(
+    alloc: Global,
+    unit: Unit,
+    pieces: &Pieces,
+    parameters: Option<&[u8]>,
+) -> Result<Option<Rounded>, AllocError>
+    ensures { IfOk result (λ answer. answer ≡ primitives_shape unit (fields_of pieces.now (option_copied parameters.entry))) }
+{
+    let Some(fields) = macro_fields(alloc, pieces, parameters)? else {
+        return Ok(None);
+    };
+    let Some(primitives) = read_primitives(alloc, unit, fields.primitives())? else {
+        return Ok(None);
+    };
+    shape_of_primitives(alloc, primitives.as_slice())
+}
