@@ -50,16 +50,12 @@ pub fn is_name(name: &[u8]) -> bool
 pub fn standard_template(name: &[u8]) -> Option<Standard>
     ensures { result ≡ standard_template name.now }
 {
-    if name == b"C".as_slice() {
-        Some(Standard::Circle)
-    } else if name == b"R".as_slice() {
-        Some(Standard::Rectangle)
-    } else if name == b"O".as_slice() {
-        Some(Standard::Obround)
-    } else if name == b"P".as_slice() {
-        Some(Standard::Polygon)
-    } else {
-        None
+    match name {
+        b"C" => Some(Standard::Circle),
+        b"R" => Some(Standard::Rectangle),
+        b"O" => Some(Standard::Obround),
+        b"P" => Some(Standard::Polygon),
+        _ => None,
     }
 }
 
@@ -308,7 +304,7 @@ pub(crate) fn read_macro(alloc: Global, text: &[u8]) -> Result<ItemCommands, Ite
     if !is_name(name) || standard_template(name).is_some() {
         return Err(ItemFail::Refused(Reason::BadWord));
     }
-    let name = Text::from_slice(alloc, name)?;
     let pieces = Boxed::new(alloc, copy_pieces(alloc, pieces)?)?;
+    let name = Text::from_slice(alloc, name)?;
     Ok(ItemCommands::one(Command::Macro(name, pieces)))
 }

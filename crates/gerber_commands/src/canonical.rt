@@ -59,9 +59,8 @@ fn put_number_between(
 ) -> Result<(), AllocError>
     ensures { OnOk result (out.new.items ≡ out.old.items ++ (before.now ++ (decimal number ++ after.now))) }
 {
-    put(out, before)?;
-    put_number(out, number)?;
-    put(out, after)
+    let mut buffer = Buffer::new();
+    put_between(out, before, buffer.format(number).as_bytes(), after)
 }
 
 /// Appends a decimal between two texts.
@@ -73,9 +72,7 @@ fn put_dec_between(
 ) -> Result<(), AllocError>
     ensures { OnOk result (out.new.items ≡ out.old.items ++ (before.now ++ (canonical_dec dec ++ after.now))) }
 {
-    put(out, before)?;
-    put_dec(out, dec)?;
-    put(out, after)
+    put_between(out, before, dec.write().as_str().as_bytes(), after)
 }
 
 fn mode_word(mode: Interpolation) -> &'static [u8]
@@ -161,9 +158,9 @@ fn put_coordinate(out: &mut Vec<u8>, letter: u8, number: Option<i64>) -> Result<
 {
     match number {
         Some(number) => {
-            out.push(letter)?;
-            put(out, sign(number))?;
-            put_number(out, number.unsigned_abs())
+            let mut buffer = Buffer::new();
+            let digits = buffer.format(number.unsigned_abs()).as_bytes();
+            put_between(out, &[letter], sign(number), digits)
         }
         None => Ok(()),
     }
@@ -230,11 +227,7 @@ fn put_template(out: &mut Vec<u8>, template: &Template) -> Result<(), AllocError
             put_sizes(out, sizes.as_slice())
         }
         Template::Named(name, None) => put(out, name.bytes()),
-        Template::Named(name, Some(text)) => {
-            put(out, name.bytes())?;
-            out.push(b',')?;
-            put(out, text.bytes())
-        }
+        Template::Named(name, Some(text)) => put_between(out, name.bytes(), b",", text.bytes()),
     }
 }
 

@@ -86,12 +86,10 @@ fn read_format(text: &[u8]) -> ItemRow
 fn read_unit(text: &[u8]) -> ItemRow
     ensures { result ≡ unit_piece_row text.now }
 {
-    if text == b"MOIN".as_slice() {
-        Some(Ok(ItemCommands::one(Command::UnitIs(Unit::Inch))))
-    } else if text == b"MOMM".as_slice() {
-        Some(Ok(ItemCommands::one(Command::UnitIs(Unit::Millimetre))))
-    } else {
-        None
+    match text {
+        b"MOIN" => Some(Ok(ItemCommands::one(Command::UnitIs(Unit::Inch)))),
+        b"MOMM" => Some(Ok(ItemCommands::one(Command::UnitIs(Unit::Millimetre)))),
+        _ => None,
     }
 }
 
@@ -100,12 +98,10 @@ fn read_unit(text: &[u8]) -> ItemRow
 fn read_polarity(text: &[u8]) -> ItemRow
     ensures { result ≡ polarity_row text.now }
 {
-    if text == b"LPD".as_slice() {
-        Some(Ok(ItemCommands::one(Command::Dark)))
-    } else if text == b"LPC".as_slice() {
-        Some(Err(Reason::ClearPolarity))
-    } else {
-        None
+    match text {
+        b"LPD" => Some(Ok(ItemCommands::one(Command::Dark))),
+        b"LPC" => Some(Err(Reason::ClearPolarity)),
+        _ => None,
     }
 }
 
@@ -114,16 +110,12 @@ fn read_polarity(text: &[u8]) -> ItemRow
 fn read_mirror(text: &[u8]) -> ItemRow
     ensures { result ≡ mirror_row text.now }
 {
-    if text == b"LMN".as_slice() {
-        Some(Ok(ItemCommands::one(Command::Mirror { x: false, y: false })))
-    } else if text == b"LMX".as_slice() {
-        Some(Ok(ItemCommands::one(Command::Mirror { x: true, y: false })))
-    } else if text == b"LMY".as_slice() {
-        Some(Ok(ItemCommands::one(Command::Mirror { x: false, y: true })))
-    } else if text == b"LMXY".as_slice() {
-        Some(Ok(ItemCommands::one(Command::Mirror { x: true, y: true })))
-    } else {
-        None
+    match text {
+        b"LMN" => Some(Ok(ItemCommands::one(Command::Mirror { x: false, y: false }))),
+        b"LMX" => Some(Ok(ItemCommands::one(Command::Mirror { x: true, y: false }))),
+        b"LMY" => Some(Ok(ItemCommands::one(Command::Mirror { x: false, y: true }))),
+        b"LMXY" => Some(Ok(ItemCommands::one(Command::Mirror { x: true, y: true }))),
+        _ => None,
     }
 }
 
@@ -230,12 +222,10 @@ fn read_repeat_start(text: &[u8]) -> ItemRow
 fn read_repeat(text: &[u8]) -> ItemRow
     ensures { result ≡ repeat_row text.now }
 {
-    if text == b"SR".as_slice() {
-        return Some(Ok(ItemCommands::one(Command::RepeatEnd)));
-    }
-    match strip_prefix(b"SR", text) {
-        Some(rest) => read_repeat_start(rest),
-        None => read_repeat_start(&[]),
+    match text {
+        b"SR" => Some(Ok(ItemCommands::one(Command::RepeatEnd))),
+        [b'S', b'R', rest @ ..] => read_repeat_start(rest),
+        _ => read_repeat_start(&[]),
     }
 }
 
@@ -353,10 +343,9 @@ fn read_neutral_axes(text: &[u8]) -> ItemRow
 fn read_negative(text: &[u8]) -> ItemRow
     ensures { result ≡ negative_row text.now }
 {
-    if text == b"IPNEG".as_slice() {
-        Some(Err(Reason::NegativeImage))
-    } else {
-        None
+    match text {
+        b"IPNEG" => Some(Err(Reason::NegativeImage)),
+        _ => None,
     }
 }
 

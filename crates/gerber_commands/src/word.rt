@@ -25,10 +25,9 @@ use std::alloc::Global;
 fn read_no_effect(text: &[u8]) -> ItemRow
     ensures { result ≡ no_effect_row text.now }
 {
-    if text.is_empty() || text == b"G90".as_slice() {
-        Some(Ok(ItemCommands::nothing()))
-    } else {
-        None
+    match text {
+        b"" | b"G90" => Some(Ok(ItemCommands::nothing())),
+        _ => None,
     }
 }
 
@@ -50,20 +49,14 @@ fn split_mode(text: &[u8]) -> (Option<Interpolation>, &[u8])
     ensures mode { result.0 ≡ (split_mode text.now).0 }
     ensures rest { result.1.now ≡ (split_mode text.now).1 }
 {
-    if let Some(rest) = strip_prefix(b"G01", text) {
-        (Some(Interpolation::Linear), rest)
-    } else if let Some(rest) = strip_prefix(b"G1", text) {
-        (Some(Interpolation::Linear), rest)
-    } else if let Some(rest) = strip_prefix(b"G02", text) {
-        (Some(Interpolation::Clockwise), rest)
-    } else if let Some(rest) = strip_prefix(b"G2", text) {
-        (Some(Interpolation::Clockwise), rest)
-    } else if let Some(rest) = strip_prefix(b"G03", text) {
-        (Some(Interpolation::Counterclockwise), rest)
-    } else if let Some(rest) = strip_prefix(b"G3", text) {
-        (Some(Interpolation::Counterclockwise), rest)
-    } else {
-        (None, text)
+    match text {
+        [b'G', b'0', b'1', rest @ ..] => (Some(Interpolation::Linear), rest),
+        [b'G', b'1', rest @ ..] => (Some(Interpolation::Linear), rest),
+        [b'G', b'0', b'2', rest @ ..] => (Some(Interpolation::Clockwise), rest),
+        [b'G', b'2', rest @ ..] => (Some(Interpolation::Clockwise), rest),
+        [b'G', b'0', b'3', rest @ ..] => (Some(Interpolation::Counterclockwise), rest),
+        [b'G', b'3', rest @ ..] => (Some(Interpolation::Counterclockwise), rest),
+        _ => (None, text),
     }
 }
 
@@ -83,12 +76,10 @@ fn read_mode(text: &[u8]) -> ItemRow
 fn read_quadrant(text: &[u8]) -> ItemRow
     ensures { result ≡ quadrant_row text.now }
 {
-    if text == b"G74".as_slice() {
-        Some(Ok(ItemCommands::one(Command::Quadrant(QuadrantMode::Single))))
-    } else if text == b"G75".as_slice() {
-        Some(Ok(ItemCommands::one(Command::Quadrant(QuadrantMode::Multi))))
-    } else {
-        None
+    match text {
+        b"G74" => Some(Ok(ItemCommands::one(Command::Quadrant(QuadrantMode::Single)))),
+        b"G75" => Some(Ok(ItemCommands::one(Command::Quadrant(QuadrantMode::Multi)))),
+        _ => None,
     }
 }
 
@@ -97,12 +88,10 @@ fn read_quadrant(text: &[u8]) -> ItemRow
 fn read_region(text: &[u8]) -> ItemRow
     ensures { result ≡ region_row text.now }
 {
-    if text == b"G36".as_slice() {
-        Some(Ok(ItemCommands::one(Command::RegionStart)))
-    } else if text == b"G37".as_slice() {
-        Some(Ok(ItemCommands::one(Command::RegionEnd)))
-    } else {
-        None
+    match text {
+        b"G36" => Some(Ok(ItemCommands::one(Command::RegionStart))),
+        b"G37" => Some(Ok(ItemCommands::one(Command::RegionEnd))),
+        _ => None,
     }
 }
 
@@ -111,12 +100,10 @@ fn read_region(text: &[u8]) -> ItemRow
 fn read_unit(text: &[u8]) -> ItemRow
     ensures { result ≡ unit_row text.now }
 {
-    if text == b"G70".as_slice() {
-        Some(Ok(ItemCommands::one(Command::UnitIs(Unit::Inch))))
-    } else if text == b"G71".as_slice() {
-        Some(Ok(ItemCommands::one(Command::UnitIs(Unit::Millimetre))))
-    } else {
-        None
+    match text {
+        b"G70" => Some(Ok(ItemCommands::one(Command::UnitIs(Unit::Inch)))),
+        b"G71" => Some(Ok(ItemCommands::one(Command::UnitIs(Unit::Millimetre)))),
+        _ => None,
     }
 }
 
@@ -125,10 +112,9 @@ fn read_unit(text: &[u8]) -> ItemRow
 fn read_incremental(text: &[u8]) -> ItemRow
     ensures { result ≡ incremental_row text.now }
 {
-    if text == b"G91".as_slice() {
-        Some(Err(Reason::Incremental))
-    } else {
-        None
+    match text {
+        b"G91" => Some(Err(Reason::Incremental)),
+        _ => None,
     }
 }
 
@@ -164,12 +150,13 @@ fn read_d_word(digits: &[u8]) -> Result<ItemCommands, Reason>
         return Ok(ItemCommands::one(Command::Select(number)));
     }
     let action = action_of(number)?;
+    let none = OptionalInteger::none();
     Ok(ItemCommands::one(Command::Operate {
         action,
-        x: OptionalInteger::none(),
-        y: OptionalInteger::none(),
-        i: OptionalInteger::none(),
-        j: OptionalInteger::none(),
+        x: none,
+        y: none,
+        i: none,
+        j: none,
     }))
 }
 
@@ -349,10 +336,9 @@ fn read_operation(plotting: bool, text: &[u8]) -> ItemRow
 fn read_finish(text: &[u8]) -> ItemRow
     ensures { result ≡ finish_row text.now }
 {
-    if text == b"M02".as_slice() || text == b"M2".as_slice() {
-        Some(Ok(ItemCommands::one(Command::Finish)))
-    } else {
-        None
+    match text {
+        b"M02" | b"M2" => Some(Ok(ItemCommands::one(Command::Finish))),
+        _ => None,
     }
 }
 
@@ -361,11 +347,9 @@ fn read_finish(text: &[u8]) -> ItemRow
 fn read_deprecated(text: &[u8]) -> ItemRow
     ensures { result ≡ deprecated_row text.now }
 {
-    let stops = text == b"M00".as_slice() || text == b"M01".as_slice();
-    if stops || strip_prefix(b"N", text).is_some() {
-        Some(Err(Reason::OldParameter))
-    } else {
-        None
+    match text {
+        b"M00" | b"M01" | [b'N', ..] => Some(Err(Reason::OldParameter)),
+        _ => None,
     }
 }
 

@@ -1,7 +1,7 @@
 -- The ranges of numbers that are read.
-use Rattle.gerber_text.proofs.Common.{◌≡◌, ℕ, zero, suc, ◌+◌, ◌-◌, ◌*◌, ◌<◌, ◌≤◌, ◌^◌, Bool, true, false, cond, not, ◌&&◌, eqb, leb, ltb, List, [], ◌∷◌, length, take, drop, ℤ, pos, Result, Ok, Err, refl, sym, ap, ◌∙◌, arith, unsigned_abs, neg_ℤ, decimal, list_all, prefix_len, AllByRecursion, length-take, All-from_recursion, length-decimal-le, leb-true, le-leb, lt-ltb, ltb-false, Reason, BadNumber, TooManyDigits, TooFine, TooFar, is_digit, is_digits, value, without_sign, is_negative, signed_value, to_units, whole, fraction, is_decimal, fits_eight_decimals, value_without_point, parse_decimal, max_units, significant_digits, int_of, nat_of, is_nat, is_int, is_dec, and_true, both_true}
+use Rattle.gerber_text.proofs.Common.{◌≡◌, ℕ, zero, suc, ◌+◌, ◌-◌, ◌*◌, ◌<◌, ◌≤◌, ◌^◌, Bool, true, false, cond, not, ◌&&◌, eqb, leb, ltb, List, [], ◌∷◌, length, take, drop, ℤ, pos, Result, Ok, Err, refl, sym, ap, ◌∙◌, arith, unsigned_abs, neg_ℤ, decimal, list_all, prefix_len, length-take, All-from_recursion, length-decimal-le, leb-true, le-leb, lt-ltb, ltb-false, Reason, BadNumber, TooManyDigits, TooFine, TooFar, is_digit, is_digits, value, without_sign, is_negative, signed_value, to_units, whole, fraction, is_decimal, fits_eight_decimals, value_without_point, parse_decimal, max_units, significant_digits, int_of, nat_of, is_nat, is_int, is_dec, and_true, both_true}
 use Rattle.std.proofs.Math.Nat.{pow-le-pow_right}
-use Rattle.grid_units.proofs.DigitLemmas.{value_lt, to_units_is, filled_lt}
+use Rattle.grid_units.proofs.DigitLemmas.{value_lt, to_units_is, filled_lt, each_digit}
 use Rattle.gerber_commands.proofs.NumberLemmas.{value_significant}
 use Rattle.gerber_commands.proofs.RowLemmas.{guarded, refused, allowed}
 
@@ -18,10 +18,6 @@ all_take : {A : Type 0} (p : A → Bool) (n : ℕ) (xs : List A) → list_all p 
 all_take p zero xs h = refl
 all_take p (suc n) [] h = refl
 all_take p (suc n) (x ∷ xs) h = let k = both_true (p x) (list_all p xs) h in and_true (p x) (list_all p (take n xs)) k.0 (all_take p n xs k.1)
-
-all_recursion : (xs : List ℕ) → list_all is_digit xs ≡ true → AllByRecursion (λ b. is_digit b ≡ true) xs
-all_recursion [] h = tt
-all_recursion (x ∷ xs) h = let k = both_true (is_digit x) (list_all is_digit xs) h in (k.0, all_recursion xs k.1)
 
 -- ---- numbers without a sign
 
@@ -41,7 +37,7 @@ was_nat digits n e =
     let k = both_true (is_digits digits) (leb (value digits) 2147483647) g.0 in
     let d = both_true (not (eqb (length digits) 0)) (list_all is_digit digits) k.0 in
     let le : value digits ≤ 2147483647 = leb-true (value digits) 2147483647 k.1 in
-    let lt : value digits < 10 ^ length digits = value_lt digits (all_recursion digits d.1) in
+    let lt : value digits < 10 ^ length digits = value_lt digits (each_digit digits d.1) in
     let short : length (decimal (value digits)) ≤ length digits = length-decimal-le (length digits) (value digits) (positive (length digits) d.0) lt (omega (arith, le)) in
     record {
       range = ap is_nat (sym g.1) ∙ k.1;
@@ -64,7 +60,7 @@ was_int run z e =
     let same : signed_value run (value u) ≡ z = let o : Ok (signed_value run (value u)) ≡ Ok z = b.1 in cc in
     let few : length (significant_digits u) ≤ 12 = ltb-false 12 (length (significant_digits u)) b.0 in
     let d = both_true (not (eqb (length u) 0)) (list_all is_digit u) a.0 in
-    let lt : value (significant_digits u) < 10 ^ length (significant_digits u) = value_lt (significant_digits u) (all_recursion (significant_digits u) (all_drop is_digit (prefix_len (λ b. eqb b 48) u) u d.1)) in
+    let lt : value (significant_digits u) < 10 ^ length (significant_digits u) = value_lt (significant_digits u) (each_digit (significant_digits u) (all_drop is_digit (prefix_len (λ b. eqb b 48) u) u d.1)) in
     let le : 10 ^ length (significant_digits u) ≤ 10 ^ 12 = pow-le-pow_right {n = 10} (omega arith) {i = length (significant_digits u)} {j = 12} few in
     let abs : unsigned_abs z ≡ value u = ap unsigned_abs (sym same) ∙ signed_abs (is_negative run) (value u) in
     lt-ltb (unsigned_abs z) (10 ^ 12) (omega (arith, abs, value_significant u, lt, le))
@@ -85,7 +81,7 @@ was_dec text v e =
     let digits = both_true (list_all is_digit w && list_all is_digit f) (not (eqb (length w + length f) 0)) a.0 in
     let fds = (both_true (list_all is_digit w) (list_all is_digit f) digits.0).1 in
     let t = take 8 f in
-    let lt : value t * 10 ^ (8 - length t) < 10 ^ 8 = filled_lt t (All-from_recursion (λ b. is_digit b ≡ true) t (all_recursion t (all_take is_digit 8 f fds))) (omega (arith, length-take 8 f)) in
+    let lt : value t * 10 ^ (8 - length t) < 10 ^ 8 = filled_lt t (All-from_recursion (λ b. is_digit b ≡ true) t (each_digit t (all_take is_digit 8 f fds))) (omega (arith, length-take 8 f)) in
     let is : m ≡ value w * 10 ^ 8 + value t * 10 ^ (8 - length t) = to_units_is w f b.0 in
     let scaled : value w * 10 ^ 8 ≤ 999999 * 10 ^ 8 = omega (arith, low) in
     let abs : unsigned_abs v ≡ m = ap unsigned_abs (sym same) ∙ signed_abs (is_negative text) m in

@@ -2,6 +2,7 @@
 use Rattle.gerber_text.proofs.Common.{◌≡◌, ◌≢◌, ℕ, suc, ◌+◌, ◌<◌, ◌≤◌, Bool, true, false, cond, ◌||◌, eqb, List, [], ◌∷◌, ◌++◌, length, take, drop, get_or, All, refl, sym, ap, subst, ◌∙◌, arith, AllByRecursion, false≢true, eqb-false, get_or-take, length-take, All-from_get_or, recursion_from_All, is_line_break, end_byte, IsUnfinished, IsInside, HasLeadingItem}
 use Rattle.std.proofs.lemmas.Grind.{take_at_read}
 use Rattle.memchr.specs.Find.{Nowhere, Passes, is_byte3}
+use Rattle.gerber_text.proofs.OffsetByteLemmas.{AllR-append}
 use Rattle.gerber_text.proofs.ReaderStepLemmas.{run_inside, run_kept, ender_stays}
 
 -- ---- runs
@@ -35,10 +36,6 @@ unfinished_by : (t : Bool) (b : ℕ) → b ≢ 42 → AllByRecursion (λ x. x �
 unfinished_by true b ne = tt
 unfinished_by false b ne = (ne, tt)
 
-pub joined : (P : ℕ → Type 0) (xs ys : List ℕ) → AllByRecursion P xs → AllByRecursion P ys → AllByRecursion P (xs ++ ys)
-joined P [] ys h k = k
-joined P (x ∷ xs) ys h k = (h.0, joined P xs ys h.1 k)
-
 pub leading_item : (bytes : List ℕ) (len : ℕ) → 0 < length bytes → IsInside 42 (get_or bytes 0 0) → len < length (drop 1 bytes) → All (IsInside (end_byte bytes)) (take len (drop 1 bytes)) → get_or (drop 1 bytes) len 0 ≡ end_byte bytes → len + 2 ≤ 1048576 → HasLeadingItem bytes (len + 2)
 leading_item [] len some first more inside ends short = absurd (omega (arith, some))
 leading_item (b ∷ bs) len some first more inside ends short =
@@ -53,5 +50,5 @@ leading_item (b ∷ bs) len some first more inside ends short =
       within = omega (arith, more);
       short = short;
       one = record { prefix = b ∷ take len bs; unfinished = run_inside (b ∷ []) (take len bs) (omega arith) begun run; whole = item };
-      kept = subst (AllByRecursion (λ x. is_line_break x ≡ false)) (sym item) (first.1, joined (λ x. is_line_break x ≡ false) (take len bs) (e ∷ []) (run_kept e (take len bs) run) (ender_stays (b ∷ bs), tt));
+      kept = subst (AllByRecursion (λ x. is_line_break x ≡ false)) (sym item) (first.1, AllR-append (λ x. is_line_break x ≡ false) (take len bs) (e ∷ []) (run_kept e (take len bs) run) (ender_stays (b ∷ bs), tt));
     }

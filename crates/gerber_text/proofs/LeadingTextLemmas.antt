@@ -5,7 +5,7 @@ use Rattle.gerber_text.specs.declared.text_items.LeadingText.{LeadingText}
 use Rattle.gerber_text.specs.declared.text_items.TextKind.{TextKind}
 use Rattle.gerber_text.specs.declared.text_items.TextKind.TheVariants as kinds
 use Rattle.gerber_text.proofs.GrammarItems.{Means, item_means, item_anywhere}
-use Rattle.gerber_text.proofs.LeadingItemLemmas.{joined}
+use Rattle.gerber_text.proofs.OffsetByteLemmas.{AllR-append}
 use Rattle.gerber_text.proofs.ReaderStepLemmas.{run_kept}
 
 -- ---- found by its end
@@ -71,7 +71,7 @@ end_kept (kinds.Attribute which) = (refl, (refl, tt))
 end_kept kinds.Remove = (refl, (refl, tt))
 
 item_kept : (kind : TextKind) (text : List ℕ) → IsKept text → IsKept (item_of kind text)
-item_kept kind text h = joined (λ b. is_line_break b ≡ false) (text_code kind ++ text) (text_end kind) (joined (λ b. is_line_break b ≡ false) (text_code kind) text (code_kept kind) h) (end_kept kind)
+item_kept kind text h = AllR-append (λ b. is_line_break b ≡ false) (text_code kind ++ text) (text_end kind) (AllR-append (λ b. is_line_break b ≡ false) (text_code kind) text (code_kept kind) h) (end_kept kind)
 
 -- the code is three bytes long
 pub code_long : (kind : TextKind) → length (text_code kind) ≡ 3

@@ -1,11 +1,11 @@
 //! Lengths in millimetres.
 
-ghost use Rattle.std.specs.Prelude.{◌≡◌, ◌≤◌, ◌<◌, ◌+◌, ◌++◌, ◌∷◌, ◌/◌, ◌%◌, ◌^◌, [], Some, decimal};
+ghost use Rattle.std.specs.Prelude.{◌≡◌, ◌≤◌, ◌<◌, ◌∷◌, ◌^◌, Some};
 ghost use Rattle.std.specs.Fmt.{DisplaysOnOk};
 ghost use Rattle.grid_units.specs.Spellings.{fraction_text, millimetres, minus, places, without_end_zeros};
 ghost use Rattle.grid_units.specs.LengthWords.{short_millimetres};
 
-use crate::{power_of_ten, write_mm};
+use crate::spelling::{digit_of, without_zeros, write_mm};
 use std::fmt;
 use std::fmt::{Display, Formatter};
 
@@ -45,31 +45,8 @@ impl Display for Millimetres {
     }
 }
 
-/// A number without the zeros at its end, and how many of its nine digits are left.
-fn without_zeros(number: u32) -> (u32, u8)
-    ensures places { places result.1 result.0 ≡ without_end_zeros (places 9 number) }
-    ensures width { result.1 ≤ 9 }
-{
-    let mut rest = number;
-    let mut width = 9;
-    while width > 0 && rest % 10 == 0 {
-        rest /= 10;
-        width -= 1;
-    }
-    (rest, width)
-}
-
-/// One digit of a number: that of so many tens.
-fn digit_of(number: u32, exponent: u8) -> u8
-    requires { exponent < 9 }
-    ensures value { result ≡ number / 10 ^ exponent % 10 }
-    ensures digit { result < 10 }
-{
-    (u64::from(number) / power_of_ten(exponent) % 10) as u8
-}
-
 /// Writes the last so many digits of a number.
-fn write_places<W: fmt::Write>(f: &mut Formatter<W>, number: u32, width: u8) -> fmt::Result
+fn write_places<W: fmt::Write>(f: &mut Formatter<W>, number: u64, width: u8) -> fmt::Result
     requires { width ≤ 9 }
     ensures { DisplaysOnOk W.write_str_gives f.old result (Some (places width number)) f.new }
 {
@@ -80,10 +57,10 @@ fn write_places<W: fmt::Write>(f: &mut Formatter<W>, number: u32, width: u8) -> 
 }
 
 /// Writes a point and the decimals of so many pm, less than a millimetre, without the zeros at their end; nothing where none is left.
-fn write_short_decimals<W: fmt::Write>(f: &mut Formatter<W>, below: u32) -> fmt::Result
+fn write_short_decimals<W: fmt::Write>(f: &mut Formatter<W>, below: u64) -> fmt::Result
     ensures { DisplaysOnOk W.write_str_gives f.old result (Some (fraction_text (without_end_zeros (places 9 below)))) f.new }
 {
-    let (number, width) = without_zeros(below);
+    let (number, width) = without_zeros(below, 9);
     if width == 0 {
         return Ok(());
     }
@@ -101,6 +78,6 @@ impl Display for ShortMillimetres {
     fn fmt<W: fmt::Write>(&self, f: &mut Formatter<W>) -> fmt::Result {
         let size = self.0.unsigned_abs();
         write!(f, "{}{}", minus(self.0), size / MILLIMETRE)?;
-        write_short_decimals(f, (size % MILLIMETRE) as u32)
+        write_short_decimals(f, size % MILLIMETRE)
     }
 }

@@ -65,7 +65,7 @@ fn push_digit(text: &mut ArrayString<16>, digit: u8)
 }
 
 /// The digit of a number at 10^`exponent`.
-fn digit_of(number: u64, exponent: u8) -> u8
+pub(crate) fn digit_of(number: u64, exponent: u8) -> u8
     requires { exponent ≤ 12 }
     ensures value { result ≡ number / 10 ^ exponent % 10 }
     ensures digit { result < 10 }
@@ -84,13 +84,13 @@ fn push_places(text: &mut ArrayString<16>, number: u64, width: u8)
     }
 }
 
-/// The number without the zeros at its end, and how many of its last eight digits are left.
-fn without_zeros(number: u64) -> (u64, u8)
-    ensures places { places result.1 result.0 ≡ without_end_zeros (places 8 number) }
-    ensures width { result.1 ≤ 8 }
+/// The number without the zeros at its end, and how many of its last `digits` digits are left.
+pub(crate) fn without_zeros(number: u64, digits: u8) -> (u64, u8)
+    ensures places { places result.1 result.0 ≡ without_end_zeros (places digits number) }
+    ensures width { result.1 ≤ digits }
 {
     let mut rest = number;
-    let mut width = 8;
+    let mut width = digits;
     while width > 0 && rest % 10 == 0 {
         rest /= 10;
         width -= 1;
@@ -104,7 +104,7 @@ pub(crate) fn push_decimals(text: &mut ArrayString<16>, fraction: u64)
     requires { array_string_len text.old ≤ 7 }
     ensures { text.new.bytes ≡ text.old.bytes ++ fraction_text (without_end_zeros (places 8 fraction)) }
 {
-    let (number, width) = without_zeros(fraction);
+    let (number, width) = without_zeros(fraction, 8);
     if width > 0 {
         push_ascii(text, b'.');
         push_places(text, number, width);
@@ -116,7 +116,7 @@ pub(crate) fn push_decimals_or_zero(text: &mut ArrayString<16>, fraction: u64)
     requires { array_string_len text.old ≤ 7 }
     ensures { text.new.bytes ≡ text.old.bytes ++ fraction_text_or_zero (without_end_zeros (places 8 fraction)) }
 {
-    let (number, width) = without_zeros(fraction);
+    let (number, width) = without_zeros(fraction, 8);
     push_ascii(text, b'.');
     if width > 0 {
         push_places(text, number, width);

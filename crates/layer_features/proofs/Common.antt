@@ -17,7 +17,7 @@ pub use Rattle.layer_features.specs.CopperLaws.{ContoursAreInsideEdges, FlashedS
 pub use Rattle.layer_features.specs.Drawn.{DrawState, draw_state_after, drawn_by, mirroring_set, mode_set, near, operation_point, point_at, quadrant_set, selected_shape, stays_near}
 pub use Rattle.layer_features.specs.Features.{added_features, contour_count, contour_feature, counts_of, dark_kind, features_at, flash_feature, flashed_count, is_contour, is_flashed_pad, is_other, other_count, pad_in, pads_of, taken_away, taken_kind, wide_features_of}
 pub use Rattle.layer_features.specs.FurtherPads.{CopperState, clearing_after, clears_in, contours_in, copper_state_after, ended_copies, ended_regions, flash_shape, has_room, is_room, macro_why, plot_state}
-pub use Rattle.layer_features.specs.Inner.Forgetting.{is_over, starts_no_pad, starts_no_polygon}
+pub use Rattle.layer_features.specs.Inner.Forgetting.{are_sides_of_none, is_over, starts_no_pad, starts_no_polygon}
 pub use Rattle.layer_features.specs.Inner.Plotters.{Selection, after_command, draw_state, pencil_state, selection, selection_after}
 pub use Rattle.layer_features.specs.Inner.States.{IsLike, MakeSameContour, after, with_capped_regions, clearing_with, copper_state, parts_after, takes_part, with_parts}
 pub use Rattle.layer_features.specs.Inner.Steps.{AreWidePadsOf, changes_block, clockwise_round, counterclockwise_round, in_last_region, is_no_move, leading_sides, max_regions, polygon_of_sides}

@@ -23,15 +23,12 @@ mapped f all now more sums = ap (map f) sums ∙ map-append f now more
 pub and_mapped : {A B : Type 0} (f : A → B) (start : List B) (all now more : List A) → all ≡ now ++ more → (start ++ map f now) ++ map f more ≡ start ++ map f all
 and_mapped f start all now more sums = append_assoc start (map f now) (map f more) ∙ ap (λ l. start ++ l) (sym (mapped f all now more sums))
 
-product_bound : (s : ℤ) (k : ℕ) → unsigned_abs s ≤ 2 ^ 71 → k < 2 ^ 32 → unsigned_abs (pos k *ℤ s) ≤ 2 ^ 103
-product_bound s k b l =
+-- some steps are bounded
+pub steps_bound : (s : ℤ) (k : ℕ) → unsigned_abs s ≤ 2 ^ 71 → k < 2 ^ 32 → unsigned_abs (pos k *ℤ s) ≤ 2 ^ 104
+steps_bound s k b l =
     let q : k ≤ 2 ^ 32 = omega arith in
     let p : k * unsigned_abs s ≤ 2 ^ 32 * 2 ^ 71 = mul-le-mul q b in
     rw unsigned_abs-mul (omega arith)
-
--- some steps are bounded
-pub steps_bound : (s : ℤ) (k : ℕ) → unsigned_abs s ≤ 2 ^ 71 → k < 2 ^ 32 → unsigned_abs (pos k *ℤ s) ≤ 2 ^ 104
-steps_bound s k b l = omega (arith, product_bound s k b l)
 
 pub back : (z : ℤ) → unsigned_abs z ≤ 2 ^ 104 → to_z w128 (of_z w128 z) ≡ z
 back z h = to_z-of_z w128 z (fits z h)

@@ -22,6 +22,7 @@ use Rattle.layer_features.specs.CopperHolding.{HasMet, IsSettingOf}
 use Rattle.layer_features.specs.declared.keep.Keep.{Keep}
 use Rattle.layer_features.specs.declared.kept_features.KeptFeatures.{KeptFeatures}
 use Rattle.layer_features.proofs.ClearingLemmas.{after_last-more, clearing_after-more}
+use Rattle.layer_features.proofs.ForgettingLemmas.{none_added}
 use Rattle.layer_features.proofs.StandingLemmas.{uncleared-more, wide_features_of-more}
 
 -- the state after one more command
@@ -381,9 +382,6 @@ no_dark : (clear : Bool) (o : Option Drawn) → o ≡ None → (if clear then no
 no_dark true o h = refl
 no_dark false o h = h
 
-none_further : (parts : List Part) → MakeSameContour parts (parts ++ [])
-none_further parts = λ more. ap (λ (l : List Part). contour_of (l ++ more)) (sym (append-nil parts))
-
 -- these commands and one more that is idle were met, which may change the plotter; what another copy of the open block takes away was taken away
 pub idle_met : {E : Type 0} (now : Current) (keep : Keep) (taken : List WidePad) (old marked : Copper) (commands : List Command) (c : Command) (r : Result (Unit {0}) E) → IsIdle c → HasMet keep taken old commands → now ≡ current_of (state_after commands)
     → ((gone : List WidePad) (features : List Feature) → KeepsFeatures old.kept gone features → OnOk r (KeepsFeatures marked.kept gone (if is_repeated now.block && old.clearing.in_block then filter_map taken_away features else features)))
@@ -415,7 +413,7 @@ idle_met now keep taken old marked commands c (Ok x) idle met now_is kept rows s
     }) (record {
       state = λ next.
           subst (IsLike (copper_state next marked)) (sym (idle.stays next (copper_state here still)))
-          (record { rest = λ i. record { draw = (state next i).draw; parts = marked.parts.items ++ []; regions = regions i; clearing = marked.clearing }; parts = none_further marked.parts.items });
+          (record { rest = λ i. record { draw = (state next i).draw; parts = marked.parts.items ++ []; regions = regions i; clearing = marked.clearing }; parts = none_added marked.parts.items });
       kept = refl;
       drawing = refl;
     })

@@ -3,7 +3,7 @@ use Rattle.layer_features.proofs.Common.{◌≡◌, ◌∙◌, ℕ, suc, ◌+◌
 use Rattle.macro_shapes.proofs.RunsOfPoints.{many_stops_back, many_stops_longer, none_round_many}
 use Rattle.layer_features.specs.declared.part.Part.TheVariants as part
 use Rattle.layer_features.proofs.PointsLemmas.{some_is}
-use Rattle.layer_features.proofs.TurnsLemmas.{none_round_both}
+use Rattle.layer_features.proofs.TurnsLemmas.{none_round, none_round_both}
 
 -- parts of which the first is no move make no contour
 over : (parts more : List Part) → is_over parts ≡ true → contour_of (parts ++ more) ≡ None
@@ -51,10 +51,6 @@ ends_with (part.Other ∷ ps) more ends h = absurd (none-some ends h)
 ends_with (part.Side from to bent ∷ ps) more ends h =
     let rest = mapped_some (λ (l : List GridPoint). to ∷ l) (ends_of ps) ends h in
     ap (option_map (λ (l : List GridPoint). to ∷ l)) (ends_with ps more rest.0 rest.1) ∙ map_twice to rest.0 (ends_of more) ∙ ap (λ (e : List GridPoint). option_map (λ l. e ++ l) (ends_of more)) rest.2
-
--- no polygon
-abbrev none_round : Option GridRounded
-none_round = None
 
 -- no polygon goes round a run that goes on from one that starts none, either way
 neither_there : (run rest : List GridPoint) → starts_no_polygon run ≡ true → (polygon_round (run ++ rest) ≡ None) × (polygon_round (reverse (run ++ rest)) ≡ None)

@@ -5,7 +5,7 @@ use Rattle.layer_features.specs.declared.counts.FeatureCounts.{FeatureCounts}
 use Rattle.layer_features.specs.declared.feature.FeatureKind.{FeatureKind}
 use Rattle.layer_features.specs.declared.feature.FeatureKind.TheVariants as kind
 use Rattle.layer_features.specs.declared.kept_features.KeptFeatures.{KeptFeatures}
-use Rattle.layer_features.proofs.StandingLemmas.{left_first, left_of}
+use Rattle.layer_features.proofs.StandingLemmas.{left_before, left_first, left_of}
 
 -- ---- cuts
 
@@ -118,10 +118,6 @@ of_one test f fs = sum_by-cons (λ (g : Feature). cond (test g.what) 1 0) f fs
 -- one more at the end
 of_last : (test : FeatureKind → Bool) (fs : List Feature) (f : Feature) → count_by (λ (g : Feature). test g.what) (fs ++ f ∷ []) ≡ count_by (λ (g : Feature). test g.what) fs + cond (test f.what) 1 0
 of_last test fs f = sum_by-append (λ (g : Feature). cond (test g.what) 1 0) fs (f ∷ []) ∙ ap (λ (n : ℕ). count_by (λ (g : Feature). test g.what) fs + n) (of_one test f [] ∙ omega arith)
-
--- what is left of one of this kind, at this point, before others
-abbrev left_before : GridPoint → FeatureKind → List Feature → List Feature
-left_before at k rest = cons_option (option_map (λ (j : FeatureKind). record { at = at; what = j }) (taken_kind k)) rest
 
 of_left : (test : FeatureKind → Bool) (at : GridPoint) (k : FeatureKind) (rest : List Feature) → count_by (λ (g : Feature). test g.what) (record { at = at; what = k } ∷ rest) ≡ cond (test k) 1 0 + count_by (λ (g : Feature). test g.what) rest
 of_left test at k rest = of_one test (record { at = at; what = k }) rest

@@ -12,7 +12,7 @@ left_of features = filter_map taken_away features
 -- ---- taken away twice
 
 -- what is left of one of this kind, at this point, before others
-abbrev left_before : GridPoint → FeatureKind → List Feature → List Feature
+abbrev pub left_before : GridPoint → FeatureKind → List Feature → List Feature
 left_before at k rest = cons_option (option_map (λ (j : FeatureKind). record { at = at; what = j }) (taken_kind k)) rest
 
 one_again : (at : GridPoint) (k : FeatureKind) (rest : List Feature) → left_of (left_before at k rest) ≡ left_before at k (left_of rest)

@@ -207,7 +207,7 @@ not_convex p ps a b l right closed e = by (is_convex (polygon a (b ∷ l))) refl
     by false k = refl
 
 -- no polygon
-abbrev none_round : Option GridRounded
+abbrev pub none_round : Option GridRounded
 none_round = None
 
 no_polygon : (s t u v : Bool) (r : GridRounded) → v ≡ false → (if s then (if t && (u && v) then Some r else none_round) else none_round) ≡ none_round

@@ -4,17 +4,17 @@ use Rattle.layer_features.proofs.ClearingLemmas.{after_last-append, after_last-m
 
 -- ---- elements of lists
 
-none_contained : {A : Type 0} (x : A) → Contains [] x → ⊥
+pub none_contained : {A : Type 0} (x : A) → Contains [] x → ⊥
 none_contained x h = let lt = h.1 in omega arith
 
-tail_contained : {A : Type 0} (y : A) (xs : List A) (x : A) → Contains xs x → Contains (y ∷ xs) x
+pub tail_contained : {A : Type 0} (y : A) (xs : List A) (x : A) → Contains xs x → Contains (y ∷ xs) x
 tail_contained y xs x h = (suc h.0, (let lt = h.1 in omega arith), h.2)
 
 contained_amid : {A : Type 0} (xs ys : List A) (x : A) → Contains (xs ++ x ∷ ys) x
 contained_amid [] ys x = (0, omega arith, refl)
 contained_amid (y ∷ xs) ys x = tail_contained y (xs ++ x ∷ ys) x (contained_amid xs ys x)
 
-head_or_tail : {A : Type 0} (y : A) (xs : List A) (x : A) → Contains (y ∷ xs) x → (y ≡ x) ⊎ Contains xs x
+pub head_or_tail : {A : Type 0} (y : A) (xs : List A) (x : A) → Contains (y ∷ xs) x → (y ≡ x) ⊎ Contains xs x
 head_or_tail y xs x h = by h.0 h.1 h.2
   where
     by : (k : ℕ) → k < length (y ∷ xs) → get_or (y ∷ xs) k x ≡ x → (y ≡ x) ⊎ Contains xs x

@@ -19,7 +19,7 @@ use Rattle.layer_state.specs.declared.aperture.Aperture.TheVariants as aperture
 -- ---- commands
 
 -- four whole digits and six decimals, which are steps of 1 nm in mm
-abbrev nanometres : Format
+abbrev pub nanometres : Format
 nanometres = record { whole = 4; decimals = 6 }
 
 -- `M`
@@ -40,7 +40,7 @@ with_disc =
     command.UnitIs Millimetre ∷ command.FormatIs nanometres ∷ command.Define 11 (template.Standard standard.Circle (pos 50000000 ∷ [])) ∷ command.Select 11 ∷ []
 
 -- an operation at a point, in nm
-abbrev flash : ℕ → ℕ → Command
+abbrev pub flash : ℕ → ℕ → Command
 flash x y = command.Operate action.Flash (Some (pos x)) (Some (pos y)) None None
 
 abbrev move : ℕ → ℕ → Command
@@ -54,7 +54,7 @@ abbrev triangle : List Command
 triangle = command.RegionStart ∷ move 0 0 ∷ plot 1000000 0 ∷ plot 0 1000000 ∷ plot 0 0 ∷ command.RegionEnd ∷ []
 
 -- `%SRX2Y1I5J0*%`: two copies, 5 mm apart
-abbrev two : StepRepeat
+abbrev pub two : StepRepeat
 two = record { columns = 2; rows = 1; step_x = pos 500000000; step_y = pos 0 }
 
 -- ---- pads

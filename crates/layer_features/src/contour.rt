@@ -129,7 +129,8 @@ fn clockwise_round(
     if has_counterclockwise(sides) {
         return Ok(None);
     }
-    let back: Vec<Point> = points.iter().rev().copied().collect(alloc)?;
+    let mut back = Vec::from_slice(alloc, points)?;
+    back.reverse();
     polygon_round(alloc, &back)
 }
 

@@ -6,8 +6,7 @@ ghost use Rattle.layer_features.specs.Inner.States.{MakeSameContour};
 
 use crate::contour::points_of;
 use crate::part::Part;
-use crate::turns::turns_both_ways;
-use macro_shapes::has_many_stops;
+use crate::turns::starts_no_polygon;
 use std::alloc::{AllocError, Global};
 
 /// How many parts there are when they are first looked at for a contour that has too many corners or is not convex. They are looked at again
@@ -28,17 +27,15 @@ pub(crate) fn is_over(parts: &[Part]) -> bool
 fn starts_no_pad(alloc: Global, parts: &[Part]) -> Result<bool, AllocError>
     ensures { IfOk result (λ answer. answer ≡ starts_no_pad parts.now) }
 {
-    match parts {
-        [first, sides @ ..] => {
-            if !first.is_move() {
-                return Ok(false);
-            }
-            match points_of(alloc, sides)? {
-                Some(points) => Ok(has_many_stops(&points) || turns_both_ways(&points)),
-                None => Ok(false),
-            }
-        }
-        [] => Ok(false),
+    let [first, sides @ ..] = parts else {
+        return Ok(false);
+    };
+    if !first.is_move() {
+        return Ok(false);
+    }
+    match points_of(alloc, sides)? {
+        Some(points) => Ok(starts_no_polygon(&points)),
+        None => Ok(false),
     }
 }
 

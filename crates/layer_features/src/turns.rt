@@ -2,9 +2,11 @@
 
 ghost use Rattle.std.specs.Prelude.{◌≡◌, ◌≤◌, ◌*ℤ◌, unsigned_abs};
 ghost use Rattle.pad_shapes.specs.Rounded.{cross};
-ghost use Rattle.layer_features.specs.Inner.Turns.{turns_left, turns_right, turns_both_ways};
+ghost use Rattle.layer_features.specs.Inner.Forgetting.{starts_no_polygon};
+ghost use Rattle.layer_features.specs.Inner.Turns.{turns_left, turns_right};
 
 use grid_units::Point;
+use macro_shapes::has_many_stops;
 
 /// The product of two differences of coordinates, in square pm.
 fn product(a: i64, b: i64) -> i128
@@ -52,9 +54,9 @@ fn turns_right(run: &[Point]) -> bool
     false
 }
 
-/// Whether a run of points turns to the left at one of them and to the right at another.
-pub(crate) fn turns_both_ways(run: &[Point]) -> bool
-    ensures { result ≡ turns_both_ways run.now }
+/// Whether no convex polygon starts with a run of points: it has more corners than a pad may have, or it turns both ways.
+pub(crate) fn starts_no_polygon(run: &[Point]) -> bool
+    ensures { result ≡ starts_no_polygon run.now }
 {
-    turns_left(run) && turns_right(run)
+    has_many_stops(run) || (turns_left(run) && turns_right(run))
 }

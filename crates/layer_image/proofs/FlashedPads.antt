@@ -1,28 +1,16 @@
 -- The list of the pads of some commands has just the pads that one of them makes.
-use Rattle.layer_image.proofs.Common.{◌≡◌, ◌⊎◌, inl, inr, ℕ, zero, suc, ◌<◌, ℤ, List, [], ◌∷◌, ◌++◌, map, length, get_or, Option, None, Some, refl, sym, ap, subst, ◌∙◌, arith, append_assoc, append-nil, ◌≤◌, Contains, filter_map, flat_map, cons_option, flat_map-cons, Contains-append_left, Contains-append_right, Contains-append_cases, GridPoint, Pad, Command, numbers_below, GraphicsState, state_after, PadsAreFlashed, AreFlashPads, ArePadsFrom, ArePadsOf, IsFlashPad, IsPadOf, copies_in, copy_in, flashed_at}
+use Rattle.layer_image.proofs.Common.{◌≡◌, ◌⊎◌, inl, inr, ℕ, zero, suc, ◌<◌, ℤ, List, [], ◌∷◌, ◌++◌, map, Option, None, Some, refl, sym, ap, subst, ◌∙◌, arith, append_assoc, append-nil, ◌≤◌, Contains, filter_map, flat_map, cons_option, flat_map-cons, Contains-append_left, Contains-append_right, Contains-append_cases, GridPoint, Pad, Command, numbers_below, GraphicsState, state_after, PadsAreFlashed, AreFlashPads, ArePadsFrom, ArePadsOf, IsFlashPad, IsPadOf, copies_in, copy_in, flashed_at}
 use Rattle.std.proofs.lemmas.Bool.{cases_lt}
 use Rattle.gerber_commands.specs.declared.command.Action.TheVariants as action
 use Rattle.gerber_commands.specs.declared.command.Command.TheVariants as command
 use Rattle.layer_image.proofs.UniquePads.{flash_once}
+use Rattle.layer_features.proofs.UnclearedPositions.{head_or_tail, none_contained, tail_contained}
 use Rattle.grid_units.proofs.ListLemmas.{flat_map_at, map_contains}
 
 -- ---- elements of lists
 
-none_contained : {A : Type 0} (x : A) → Contains [] x → ⊥
-none_contained x h = let lt = h.1 in omega arith
-
 head_contained : {A : Type 0} (x : A) (xs : List A) → Contains (x ∷ xs) x
 head_contained x xs = (0, omega arith, refl)
-
-tail_contained : {A : Type 0} (y : A) (xs : List A) (x : A) → Contains xs x → Contains (y ∷ xs) x
-tail_contained y xs x h = (suc h.0, (let lt = h.1 in omega arith), h.2)
-
-head_or_tail : {A : Type 0} (y : A) (xs : List A) (x : A) → Contains (y ∷ xs) x → (y ≡ x) ⊎ Contains xs x
-head_or_tail y xs x h = by h.0 h.1 h.2
-  where
-    by : (k : ℕ) → k < length (y ∷ xs) → get_or (y ∷ xs) k x ≡ x → (y ≡ x) ⊎ Contains xs x
-    by zero lt e = inl e
-    by (suc k) lt e = inr (k, omega arith, e)
 
 contained_map : {A B : Type 0} (f : A → B) (xs : List A) (y : B) → Contains (map f xs) y → (x : A) × Contains xs x × (f x ≡ y)
 contained_map f [] y h = absurd (none_contained y h)

@@ -1,18 +1,12 @@
 -- Pads of some commands.
-use Rattle.layer_image.proofs.Common.{ℕ, pos, true, false, List, [], ◌∷◌, ◌++◌, Some, None, refl, true≢false, Pad, Command, ArePads, ArePadsFrom, ArePadsOf, IsPadOf}
+use Rattle.layer_image.proofs.Common.{ℕ, pos, true, false, List, [], ◌∷◌, ◌++◌, refl, true≢false, Pad, Command, ArePads, ArePadsFrom, ArePadsOf, IsPadOf}
 use Rattle.grid_units.specs.declared.lengths.Unit.TheVariants.{Millimetre}
 use Rattle.pad_shapes.specs.declared.pad.Pad.TheVariants as pads
-use Rattle.gerber_commands.specs.declared.command.Action.TheVariants as action
 use Rattle.gerber_commands.specs.declared.command.Command.TheVariants as command
-use Rattle.gerber_commands.specs.declared.command.Format.{Format}
 use Rattle.gerber_commands.specs.declared.command.Standard.TheVariants as standard
-use Rattle.gerber_commands.specs.declared.command.StepRepeat.{StepRepeat}
 use Rattle.gerber_commands.specs.declared.command.Template.TheVariants as template
 use Rattle.layer_state.specs.declared.aperture.Aperture.TheVariants as aperture
-
--- four whole digits and six decimals, which are steps of 1 nm in mm
-abbrev nanometres : Format
-nanometres = record { whole = 4; decimals = 6 }
+use Rattle.layer_features.proofs.WidePadExamples.{flash, nanometres, two}
 
 -- `%MOMM*%`, `%FSLAX46Y46*%`, `%ADD10C,0.5*%`, `%ADD11R,1X0.5*%`, `%ADD12C,0.5X0.2*%`
 abbrev start : List Command
@@ -25,14 +19,6 @@ start =
 -- none of these makes a pad
 after_start : (cs : List Command) (made : List Pad) → ArePadsFrom start cs made → ArePads (start ++ cs) made
 after_start cs made rest = ([], made, refl, refl, ([], made, refl, refl, ([], made, refl, refl, ([], made, refl, refl, ([], made, refl, refl, rest)))))
-
--- a flash at a point, in nm
-abbrev flash : ℕ → ℕ → Command
-flash x y = command.Operate action.Flash (Some (pos x)) (Some (pos y)) None None
-
--- `%SRX2Y1I5J0*%`: two copies, 5 mm apart
-abbrev two : StepRepeat
-two = record { columns = 2; rows = 1; step_x = pos 500000000; step_y = pos 0 }
 
 -- a rectangle round (0, 0), of halves of its sides in pm
 abbrev rectangle : ℕ → ℕ → Pad

@@ -1,12 +1,10 @@
 -- Sums of lengths, and the copies of a point.
-use Rattle.layer_state.proofs.Common.{◌≡◌, ℕ, ◌+◌, ◌*◌, ◌^◌, ◌<◌, ◌≤◌, zero, suc, ℤ, pos, negsuc, ◌+ℤ◌, ◌*ℤ◌, unsigned_abs, FitsSigned, Bool, true, false, List, [], ◌∷◌, ◌++◌, map, length, ◌||◌, nat_lt, refl, sym, ap, ◌∙◌, arith, to_z, of_z, mul-le-mul_right, mul-le-mul, true≢false, zero-mul, length-append, append-nil, append_assoc, add-one, ints, unsigned_abs-mul, to_z-of_z, list_any, flat_map, length-map, map-append, ltb-true, ltb-false, is_too_far, numbers_below, copies, copy_at, is_far_point, GridPoint, max_coordinate, w128, w64, back_128}
+use Rattle.layer_state.proofs.Common.{◌≡◌, ℕ, ◌+◌, ◌*◌, ◌^◌, ◌<◌, ◌≤◌, zero, suc, ℤ, pos, negsuc, ◌+ℤ◌, ◌*ℤ◌, unsigned_abs, FitsSigned, Bool, true, false, List, [], ◌∷◌, ◌++◌, map, length, ◌||◌, nat_lt, refl, sym, ap, ◌∙◌, arith, to_z, of_z, mul-le-mul_right, true≢false, zero-mul, length-append, append-nil, append_assoc, add-one, ints, to_z-of_z, list_any, flat_map, length-map, map-append, ltb-true, ltb-false, is_too_far, numbers_below, copies, copy_at, is_far_point, GridPoint, max_coordinate, w128, w64, back_128}
 use Rattle.std.proofs.lemmas.List.Folds.{list_any-append}
 use Rattle.std.proofs.lemmas.Grind.{common_steps, flat_map-append}
 use Rattle.std.proofs.lemmas.Nat.{mul-add-lt}
 use Rattle.layer_state.specs.declared.grid.CopyGrid.{CopyGrid}
-
-pub fits_sum : (a b : ℤ) → unsigned_abs a ≤ 2 ^ 98 → unsigned_abs b ≤ 2 ^ 103 → FitsSigned w128 (a +ℤ b)
-fits_sum a b x y = omega (arith, ints)
+use Rattle.layer_state.proofs.SumLemmas.{stepped_fits}
 
 pub fits_i64 : (a : ℤ) → unsigned_abs a ≤ max_coordinate → FitsSigned w64 a
 fits_i64 a h = omega (arith, ints)
@@ -164,16 +162,9 @@ fewer_copies f grid u v column row =
     let rest : List GridPoint = map (copy_at grid u) (numbers_below v) in
     omega (arith, length-map (first ++ rest) f, length-append first rest, count_pairs (copy_at grid) u grid.rows, length-map (numbers_below v) (copy_at grid u), length_below v, count_copies grid, mul-add-lt u grid.rows v grid.columns column row)
 
-steps_bound : (s : ℤ) (k : ℕ) → unsigned_abs s ≤ 2 ^ 71 → k < 2 ^ 32 → unsigned_abs (pos k *ℤ s) ≤ 2 ^ 103
-steps_bound s k b l =
-    let q : k ≤ 2 ^ 32 = omega arith in
-    let p : k * unsigned_abs s ≤ 2 ^ 32 * 2 ^ 71 = mul-le-mul q b in
-    rw unsigned_abs-mul (omega arith)
-
 -- a start and some steps, as they come back from 128 bits
 pub back_steps : (x s : ℤ) (k : ℕ) (r : ℤ) → unsigned_abs x ≤ 2 ^ 98 → unsigned_abs s ≤ 2 ^ 71 → k < 2 ^ 32
     → r ≡ to_z w128 (of_z w128 x) +ℤ pos k *ℤ to_z w128 (of_z w128 s) → to_z w128 (of_z w128 r) ≡ x +ℤ pos k *ℤ s
 back_steps x s k r a b l e =
     let is : r ≡ x +ℤ pos k *ℤ s = e ∙ (λ i. back_128 x a i +ℤ pos k *ℤ back_128 s (omega arith) i) in
-    let m : unsigned_abs (pos k *ℤ s) ≤ 2 ^ 103 = steps_bound s k b l in
-    ap (λ z. to_z w128 (of_z w128 z)) is ∙ to_z-of_z w128 (x +ℤ pos k *ℤ s) (fits_sum x (pos k *ℤ s) a m)
+    ap (λ z. to_z w128 (of_z w128 z)) is ∙ to_z-of_z w128 (x +ℤ pos k *ℤ s) (stepped_fits x s k a l b)

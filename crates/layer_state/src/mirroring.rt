@@ -115,18 +115,14 @@ fn oriented_points(
 }
 
 /// The corners after the first one, counterclockwise again.
-fn in_order(
-    alloc: Global,
-    mirroring: Mirroring,
-    others: Vec<Point>,
-) -> Result<Vec<Point>, AllocError>
-    ensures { IfOk result (λ found. found.items ≡ in_order mirroring others.items) }
+fn in_order(mirroring: Mirroring, others: Vec<Point>) -> Vec<Point>
+    ensures { result.items ≡ in_order mirroring others.items }
 {
+    let mut found = others;
     if mirroring.is_turned_over() {
-        others.iter().rev().copied().collect(alloc)
-    } else {
-        Ok(others)
+        found.reverse();
     }
+    found
 }
 
 /// The shape of an aperture as it is flashed, about the point of the flash.
@@ -140,7 +136,7 @@ fn oriented_shape(
 {
     let first = oriented_point(mirroring, turns, shape.first());
     let others = oriented_points(alloc, mirroring, turns, shape.others())?;
-    let others = in_order(alloc, mirroring, others)?;
+    let others = in_order(mirroring, others);
     Ok(Rounded::new(first, others, shape.radius()))
 }
 

@@ -1,5 +1,6 @@
 -- The files of a package, loaded one by one.
-use Rattle.ringcheck.proofs.Common.{◌≡◌, ℕ, suc, List, [], ◌∷◌, length, map, arith, refl, ap, Entry, AllByRecursion, FileView, Setting, HasFiles, file_views_among}
+use Rattle.std.specs.declared.alloc.AllocError.{AllocError}
+use Rattle.ringcheck.proofs.Common.{◌≡◌, Err, Ok, OnOk, Result, ℕ, suc, List, [], ◌∷◌, length, map, arith, refl, ap, Entry, AllByRecursion, FileView, Setting, HasFiles, file_views_among}
 
 pub same_length : (has : List ℕ → List ℕ → Type 0) (entries : List Entry) (files : List (List ℕ)) → HasFiles has entries files → length entries ≡ length files
 same_length has [] [] h = refl
@@ -25,3 +26,8 @@ pub read_in : (n : Setting) (es : List Entry) (fs : List (List ℕ)) → AllByRe
 read_in n [] fs = tt
 read_in n (e ∷ es) [] = tt
 read_in n (e ∷ es) (f ∷ fs) = (refl, read_in n es fs)
+
+-- what holds anyway holds of a success
+pub on_ok : (r : Result (Unit {0}) AllocError) (P : Type 0) → P → OnOk r P
+on_ok (Ok u) P p = p
+on_ok (Err e) P p = tt

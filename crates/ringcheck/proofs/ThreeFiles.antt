@@ -44,29 +44,17 @@ held m l d profile Holds h =
 pub sound_of_three : (sentence m l d : List ℕ) (r : Result GridRules Reason) (before after : Written) (s : Status) → IsParsedCheckStatus (has_three_files m l d) (codes "m.csv") r sentence before after s → s ≡ status.Pass
     → (rules : GridRules) × (r ≡ Ok rules) × (entries : List Entry) × (manifest_in rules.profile m ≡ Ok entries) × (files : List (List ℕ)) × HasFiles (has_three_files m l d) entries files × IsSound (sources rules.profile entries files) rules
 sound_of_three sentence m l d (Err why) before after s says is = absurd (usage_never_passes false why sentence before after s says is)
-sound_of_three sentence m l d (Ok rules) before after status.Pass says is = let (entries, listed, files, loaded, holds) = held m l d rules.profile _ says.0 in (rules, refl, entries, listed, files, loaded, holds.sound refl)
-sound_of_three sentence m l d (Ok rules) before after status.Findings says is = cc
-sound_of_three sentence m l d (Ok rules) before after status.Refused says is = cc
-sound_of_three sentence m l d (Ok rules) before after status.Usage says is = cc
-sound_of_three sentence m l d (Ok rules) before after status.Device says is = cc
+sound_of_three sentence m l d (Ok rules) before after s says is = let (entries, listed, files, loaded, holds) = held m l d rules.profile _ (subst (IsParsedCheckStatus (has_three_files m l d) (codes "m.csv") (Ok rules) sentence before after) is says).0 in (rules, refl, entries, listed, files, loaded, holds.sound refl)
 
 -- the files that the manifest names pass under just the rules that are met
 pub met_of_three : (sentence m l d : List ℕ) (r : Result MeasureOrder Reason) (before after : Written) (s : Status) → IsParsedMeasureStatus (has_three_files m l d) (codes "m.csv") r sentence before after s → s ≡ status.Pass
     → (order : MeasureOrder) × (r ≡ Ok order) × (entries : List Entry) × (manifest_in order.profile m ≡ Ok entries) × (files : List (List ℕ)) × HasFiles (has_three_files m l d) entries files
     × (measure : Measure) × PackagePasses order.profile (sources order.profile entries files) measure.meets.ring measure.meets.gap
 met_of_three sentence m l d (Err why) before after s says is = absurd (usage_never_passes true why sentence before after s says is)
-met_of_three sentence m l d (Ok order) before after status.Pass says is = let (entries, listed, files, loaded, holds) = held m l d order.profile _ says.0 in (order, refl, entries, listed, files, loaded, holds.measure, holds.met)
-met_of_three sentence m l d (Ok order) before after status.Findings says is = cc
-met_of_three sentence m l d (Ok order) before after status.Refused says is = cc
-met_of_three sentence m l d (Ok order) before after status.Usage says is = cc
-met_of_three sentence m l d (Ok order) before after status.Device says is = cc
+met_of_three sentence m l d (Ok order) before after s says is = let (entries, listed, files, loaded, holds) = held m l d order.profile _ (subst (IsParsedMeasureStatus (has_three_files m l d) (codes "m.csv") (Ok order) sentence before after) is says).0 in (order, refl, entries, listed, files, loaded, holds.measure, holds.met)
 
 -- the files that the manifest names are sound, where a report has no finding
 pub report_of_three : (below : Bool) (sentence m l d : List ℕ) (r : Result (GridRules × Option ℕ × ReportFormat) Reason) (before after : Written) (s : Status) → IsParsedReportStatus (has_three_files m l d) (codes "m.csv") r below sentence None None before after s → s ≡ status.Pass
     → (unparsed : GridRules × Option ℕ × ReportFormat) × (r ≡ Ok unparsed) × (entries : List Entry) × (manifest_in unparsed.0.profile m ≡ Ok entries) × (files : List (List ℕ)) × HasFiles (has_three_files m l d) entries files × IsSound (sources unparsed.0.profile entries files) unparsed.0
 report_of_three below sentence m l d (Err why) before after s says is = absurd (usage_never_passes below why sentence before after s says is)
-report_of_three below sentence m l d (Ok (rules, limit, form)) before after status.Pass says is = let (entries, listed, files, loaded, holds) = held m l d rules.profile _ says.0 in ((rules, limit, form), refl, entries, listed, files, loaded, holds.sound (sym holds.judged.0))
-report_of_three below sentence m l d (Ok (rules, limit, form)) before after status.Findings says is = cc
-report_of_three below sentence m l d (Ok (rules, limit, form)) before after status.Refused says is = cc
-report_of_three below sentence m l d (Ok (rules, limit, form)) before after status.Usage says is = cc
-report_of_three below sentence m l d (Ok (rules, limit, form)) before after status.Device says is = cc
+report_of_three below sentence m l d (Ok (rules, limit, form)) before after s says is = let (entries, listed, files, loaded, holds) = held m l d rules.profile _ (subst (IsParsedReportStatus (has_three_files m l d) (codes "m.csv") (Ok (rules, limit, form)) below sentence None None before after) is says).0 in ((rules, limit, form), refl, entries, listed, files, loaded, holds.sound (sym holds.judged.0))

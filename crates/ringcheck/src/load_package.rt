@@ -340,8 +340,9 @@ pub(crate) fn check_files<'a, L: Loader>(
     let mut reader = PackageReader::new(alloc, layer_count(entries), rules.profile());
     let drills = take_kind(alloc, loader, entries, false, &mut reader)?;
     if let Some(halt) = drills.halt {
-        let before = take_kind(alloc, loader, &entries[..drills.end], true, &mut reader)?;
-        return Ok(Err(before.halt.unwrap_or(halt)));
+        let before = take_kind(alloc, loader, &entries[..drills.end], true, &mut reader);
+        drop(reader);
+        return Ok(Err(before?.halt.unwrap_or(halt)));
     }
     let check = reader.checking(rules)?;
     match check_copper(alloc, loader, entries, check)? {

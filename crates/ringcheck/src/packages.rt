@@ -108,27 +108,13 @@ fn run_job<L: Loader, W: Write, E: Write>(
     ensures says { IfOk result (SaysJob job.now outline.now (L.has loader.old) name.now (texts W.contents E.contents to.old) (texts W.contents E.contents to.new)) }
     ensures cause { IfOk result (HasCause (L.failed loader.old) (L.failed loader.new)) }
 {
-    let entries = match load_table::<L, Entry>(
-        alloc,
-        job.profile(),
-        loader,
-        name,
-        Subject::Manifest,
-    )? {
+    let profile = job.profile();
+    let entries = match load_table::<L, Entry>(alloc, profile, loader, name, Subject::Manifest)? {
         Ok(entries) => entries,
-        Err(no_table) => {
-            return print_no_table(to, job.style(), &no_table, loader);
-        }
+        Err(no_table) => return print_no_table(to, job.style(), &no_table, loader),
     };
-    match answer(
-        alloc,
-        job,
-        outline,
-        name,
-        entries.as_slice(),
-        loader,
-        &mut to.out,
-    )? {
+    let listed = entries.as_slice();
+    match answer(alloc, job, outline, name, listed, loader, &mut to.out)? {
         Ok(passes) => Ok(status_of(passes)),
         Err(halt) => print_halt(to, job.style(), halt, loader),
     }

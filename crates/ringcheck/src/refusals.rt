@@ -1,6 +1,6 @@
 //! Why nothing is done with a package, and what is printed of it. Files are numbered from 1.
 
-ghost use Rattle.std.specs.Prelude.{◌≡◌, IfOk, OnOk, Some, map, option_map, slice_get};
+ghost use Rattle.std.specs.Prelude.{◌≡◌, IfOk, IfSome, OnOk, Some, map, option_map, slice_get};
 ghost use Rattle.csv.specs.Records.{fields_of};
 ghost use Rattle.ringcheck_files.specs.PageWords.{FitsScreen, HasHeading};
 ghost use Rattle.grid_units.specs.Reasons.{reason_name};
@@ -301,6 +301,16 @@ impl Display for RefusalSentence<'_> {
     }
 }
 
+/// Says this beside an answer in this style, unless it is the style of a page, where the answer has it.
+fn say<T: Display, E: Write>(err: &mut E, style: RefusalStyle, said: &T) -> Result<(), Failure>
+    ensures { IfSome (T.output said.now) (λ words. OnOk result (Says (beside style (Some words)) (E.contents err.old) (E.contents err.new))) }
+{
+    match style {
+        RefusalStyle::Page => Ok(()),
+        RefusalStyle::Line | RefusalStyle::Json => Ok(write!(err, "  {said}\n")?),
+    }
+}
+
 /// Prints in this style a refusal of which this sentence is said.
 fn print_explained<W: Write, E: Write>(
     to: &mut Streams<W, E>,
@@ -311,20 +321,13 @@ fn print_explained<W: Write, E: Write>(
 ) -> Result<(), Failure>
     ensures { OnOk result (PrintsRefusal style (explained_refusal said.entry subject.entry fault) (texts W.contents E.contents to.old) (texts W.contents E.contents to.new)) }
 {
+    if style != RefusalStyle::Page {
+        print_refusal(&mut to.out, style, subject, fault)?;
+        return say(&mut to.err, style, &said);
+    }
     let line = RefusalLine { subject, fault };
     let page = Indented(page_of(fault.reason));
-    match style {
-        RefusalStyle::Line => {
-            write!(to.out, "{line}")?;
-            write!(to.err, "  {said}\n")?;
-        }
-        RefusalStyle::Page => write!(to.out, "{line}  {said}\n{page}")?,
-        RefusalStyle::Json => {
-            write!(to.out, "{}", refused_stop(subject, fault))?;
-            write!(to.err, "  {said}\n")?;
-        }
-    }
-    Ok(())
+    Ok(write!(to.out, "{line}  {said}\n{page}")?)
 }
 
 /// What is said of something that cannot be read, which may be a folder.
@@ -343,24 +346,25 @@ impl Display for UnreadWords<'_> {
     ghost output = { λ it. Some (unread_words it) };
 
     fn fmt<W: fmt::Write>(&self, f: &mut Formatter<W>) -> fmt::Result {
-        let (path, is_folder) = (self.path, self.is_folder);
-        let place = place_of_names(self.folder);
+        let (path, place) = (self.path, place_of_names(self.folder));
+        if self.is_folder {
+            return match self.subject {
+                Subject::Manifest => write!(f, "{}", Container::Folder(path)),
+                Subject::Waivers => write!(f, "{path} is a folder: name a file of waivers"),
+                Subject::File { name, .. } => write!(
+                    f,
+                    "{path}, the file of {name}, is a folder: a manifest must name files"
+                ),
+            };
+        }
         match self.subject {
-            Subject::Manifest if is_folder => write!(f, "{}", Container::Folder(path)),
             Subject::Manifest => write!(
                 f,
                 "cannot read the manifest {path}: file names are taken from {place}"
             ),
-            Subject::Waivers if is_folder => {
-                write!(f, "{path} is a folder: name a file of waivers")
-            }
             Subject::Waivers => write!(
                 f,
                 "cannot read the file of waivers {path}: file names are taken from {place}"
-            ),
-            Subject::File { name, .. } if is_folder => write!(
-                f,
-                "{path}, the file of {name}, is a folder: a manifest must name files"
             ),
             Subject::File { name, .. } => write!(
                 f,
@@ -370,26 +374,19 @@ impl Display for UnreadWords<'_> {
     }
 }
 
-/// Prints in this style that something cannot be read, of which these words are said.
-fn print_unread<'a, W: Write, E: Write>(
-    to: &mut Streams<W, E>,
+/// Writes in this style that something cannot be read, of which these words are said: in the style of a page with the words.
+fn write_unread<W: Write>(
+    out: &mut W,
     style: RefusalStyle,
-    words: UnreadWords<'a>,
+    words: UnreadWords,
 ) -> Result<(), Failure>
-    ensures answer { OnOk result (Appends (W.contents to.old.out) (W.contents to.new.out) (unread_text style words.entry)) }
-    ensures beside { OnOk result (Says (beside style (Some (unread_words words.entry))) (E.contents to.old.err) (E.contents to.new.err)) }
+    ensures { OnOk result (Appends (W.contents out.old) (W.contents out.new) (unread_text style words.entry)) }
 {
     let line = UnreadLine(words.subject);
     match style {
-        RefusalStyle::Line => {
-            write!(to.out, "{line}")?;
-            write!(to.err, "  {words}\n")?;
-        }
-        RefusalStyle::Page => write!(to.out, "{line}  {words}\n")?,
-        RefusalStyle::Json => {
-            write!(to.out, "{}", unread_stop(words.subject))?;
-            write!(to.err, "  {words}\n")?;
-        }
+        RefusalStyle::Line => write!(out, "{line}")?,
+        RefusalStyle::Page => write!(out, "{line}  {words}\n")?,
+        RefusalStyle::Json => write!(out, "{}", unread_stop(words.subject))?,
     }
     Ok(())
 }
@@ -404,8 +401,8 @@ pub(crate) fn print_halt<L: Loader, W: Write, E: Write>(
     ensures { IfOk result (AfterHalt style halt.entry (texts W.contents E.contents to.old) (texts W.contents E.contents to.new)) }
 {
     match halt {
-        Halt::Refused(subject, fault) => {
-            print_refusal(&mut to.out, style, subject, fault)?;
+        Halt::Refused(what, fault) => {
+            print_refusal(&mut to.out, style, what, fault)?;
             Ok(Status::Refused)
         }
         Halt::Archive(subject, fault, name) => {
@@ -419,7 +416,8 @@ pub(crate) fn print_halt<L: Loader, W: Write, E: Write>(
                 is_folder: loader.is_folder(path),
                 folder: loader.folder(),
             };
-            print_unread(to, style, words)?;
+            write_unread(&mut to.out, style, words)?;
+            say(&mut to.err, style, &words)?;
             Ok(Status::Device)
         }
     }

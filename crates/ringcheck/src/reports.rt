@@ -53,8 +53,9 @@ fn print_page<W: Write>(
         about,
     } = *reported;
     let page = HtmlReport::new(alloc, names, about, board, outline, report, accepted)?;
-    write!(out, "{page}")?;
-    Ok(())
+    let written = write!(out, "{page}");
+    drop(page);
+    Ok(written?)
 }
 
 /// Prints a report, with the reasons why findings are waived, in its format. Only the text has a limit of findings.

@@ -82,7 +82,7 @@ impl Display for NoRules<'_> {
                     word: ring,
                     reason,
                 };
-                write!(f, "{no_ring}")
+                no_ring.fmt(f)
             }
             (Ok(_), Err(reason)) => {
                 let no_gap = NoLength {
@@ -90,7 +90,7 @@ impl Display for NoRules<'_> {
                     word: gap,
                     reason,
                 };
-                write!(f, "{no_gap}")
+                no_gap.fmt(f)
             }
             (Ok(_), Ok(_)) => write!(
                 f,
@@ -146,10 +146,10 @@ impl Display for NoPicture<'_> {
 
     fn fmt<W: fmt::Write>(&self, f: &mut Formatter<W>) -> fmt::Result {
         if profile_of(self.profile).is_none() {
-            return write!(f, "{}", NoProfile(self.profile));
+            return NoProfile(self.profile).fmt(f);
         }
         match (self.ring, self.gap) {
-            (Some(ring), Some(gap)) => write!(f, "{}", NoRules { ring, gap }),
+            (Some(ring), Some(gap)) => NoRules { ring, gap }.fmt(f),
             _ => f.write_str("--ring and --gap are given together"),
         }
     }
@@ -167,7 +167,7 @@ impl Display for NoMeasure<'_> {
 
     fn fmt<W: fmt::Write>(&self, f: &mut Formatter<W>) -> fmt::Result {
         if profile_of(self.profile).is_none() {
-            return write!(f, "{}", NoProfile(self.profile));
+            return NoProfile(self.profile).fmt(f);
         }
         match self.format {
             Some(word) => write!(f, "--format must be text or json, not {word}"),
@@ -187,13 +187,13 @@ impl Display for NoReport<'_> {
         let words = self.0;
         let (ring, gap) = (words.ring, words.gap);
         if profile_of(words.profile).is_none() {
-            return write!(f, "{}", NoProfile(words.profile));
+            return NoProfile(words.profile).fmt(f);
         }
         if parse_rules(ring, gap).is_err() {
-            return write!(f, "{}", NoRules { ring, gap });
+            return NoRules { ring, gap }.fmt(f);
         }
         if parse_limit(words.limit).is_err() {
-            return write!(f, "{}", NoCount(words.limit));
+            return NoCount(words.limit).fmt(f);
         }
         if words.outline.is_some() {
             return f.write_str("--outline works only with --format html and with draw");

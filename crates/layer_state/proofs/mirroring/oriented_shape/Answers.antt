@@ -11,8 +11,8 @@ returns c =
     let s = c.args.shape.now in
     let there = oriented_point m c.args.turns in
     let first = c.oriented_point-first.ensures ∙ ap there c.first.ensures in
-    let others = c.in_ok-others-2.ensures ∙ ap (in_order m) (c.in_ok-others.ensures ∙ ap (map there) c.others.ensures.value) in
-    let few : length c.in_ok-others-2.others.items < max_corners = subst (λ n. n < max_corners) (sym (ap length others ∙ in_order_length m (map there s.others) ∙ length-map s.others there)) c.others.ensures.in_range.few in
+    let others = c.in_order-others.ensures ∙ ap (in_order m) (c.in_ok-others.ensures ∙ ap (map there) c.others.ensures.value) in
+    let few : length c.in_order-others.result.items < max_corners = subst (λ n. n < max_corners) (sym (ap length others ∙ in_order_length m (map there s.others) ∙ length-map s.others there)) c.others.ensures.in_range.few in
     let fits : FitsSigned w64 c.radius.result = search rules in
     let back : to_z w64 (of_z w64 c.radius.result) ≡ c.radius.result = to_z-of_z w64 c.radius.result fits in
     rounded_is c.new.result _ _ (to_z w64 (of_z w64 c.radius.result)) few (subst IsPadRadius (sym back) c.radius.ensures.in_range) c.new.ensures.valid c.new.ensures.value

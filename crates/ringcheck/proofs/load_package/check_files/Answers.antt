@@ -26,12 +26,12 @@ returns-in-Some g c =
     let has = g.L.Loader.has in
     let failed = g.L.Loader.failed in
     let drills = c.in_ok-drills.drills in
-    let before = c.in_ok-before.before in
+    let before = c.in_ok-before.field-0 in
     let one = c.in_ok-drills.ensures in
     let two = c.in_ok-before.ensures in
     let read_in = c.new-reader.ensures.setting ∙ (λ j. let s : Setting = record { layers = c.layer_count.ensures j; profile = c.profile.ensures j } in s) in
-    let ended = passes_end (has c.args.loader.now) (has c.take_kind.new.loader) one.keeps c.args.rules.profile c.args.entries.now keep.Pads c.new-reader.result c.take_kind.new.reader c.take_kind-in-Some.new.reader drills.end before.end
-    (failed c.args.loader.now) (failed c.take_kind.new.loader) (failed c.take_kind-in-Some.new.loader) read_in one.setting c.new-reader.ensures.stands one.loaded two.loaded
+    let ended = passes_end (has c.args.loader.now) (has c.take_kind.new.loader) one.keeps c.args.rules.profile c.args.entries.now keep.Pads c.new-reader.result c.take_kind.new.reader c.take_kind-before.new.reader drills.end before.end
+    (failed c.args.loader.now) (failed c.take_kind.new.loader) (failed c.take_kind-before.new.loader) read_in one.setting c.new-reader.ensures.stands one.loaded two.loaded
     one.counts two.counts one.within two.within drills.halt before.halt one.ends two.ends in
     rw (ap (option_or before.halt) c.in-Some.is ∙ (or_default before.halt c.in-Some.halt ∙ ap Some (sym c.unwrap_or.ensures))) at ended
 

@@ -1,12 +1,7 @@
-use Rattle.ringcheck.proofs.Common.{◌++◌, Ok, Err, OnOk, Result, append_assoc, subst, HasOpenedCopper, CopperGoesOn}
-use Rattle.std.specs.declared.alloc.AllocError.{AllocError}
+use Rattle.ringcheck.proofs.Common.{◌++◌, append_assoc, subst, HasOpenedCopper, CopperGoesOn}
+use Rattle.ringcheck.proofs.LoadSteps.{on_ok}
 use Rattle.ringcheck.specs.declared.load_package.CheckSink.{CheckSink}
 use Rattle.ringcheck.proofs.load_package.CheckSinkSink.take.Goals as goal
-
--- what holds anyway holds of a success
-on_ok : (r : Result (Unit {0}) AllocError) (P : Type 0) → P → OnOk r P
-on_ok (Ok u) P p = p
-on_ok (Err e) P p = tt
 
 pub returns : goal.returns
 returns c = λ start text h.
