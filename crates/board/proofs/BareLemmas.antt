@@ -1,10 +1,7 @@
 -- Which holes are bare, by their best pads or where no pad is near.
-use Rattle.board.proofs.Common.{◌≡◌, ◌↔◌, ℕ, ◌<◌, ◌+◌, inl, inr, Bool, true, false, Option, Some, None, List, [], ◌∷◌, length, map, get_or, refl, sym, subst, ap, ◌∙◌, arith, cases_lt, get_or-map, length-map, GridPoint, GridHole, covers_both_ends, CoversNone, Zone, hole_at, Drilled, IsBare, IsBestPad, AreBestPads, AreBare, has_no_best_pad, BestPad}
+use Rattle.board.proofs.Common.{◌≡◌, ◌↔◌, ℕ, ◌<◌, ◌+◌, inl, inr, Bool, true, false, Option, Some, None, List, [], ◌∷◌, length, map, get_or, refl, sym, subst, ap, ◌∙◌, arith, cases_lt, get_or-map, get_or-replicate, length-map, length-replicate, list_all, replicate, GridPoint, GridHole, covers_both_ends, CoversNone, Zone, default_hole, hole_at, Drilled, IsBare, IsBestPad, AreBestPads, AreBare, has_no_best_pad, BestPad}
+use Rattle.std.proofs.lemmas.List.Folds.{list_all_at}
 use Rattle.board.specs.Inner.Zones.{CoversNothing}
-
-refused : (b : Bool) → (b ≡ true → b ≡ false) → b ≡ false
-refused true f = f refl
-refused false f = refl
 
 never : {P : Type 0} (b : Bool) → b ≡ true → b ≡ false → P
 never b e f = absurd (let g : true ≡ false = sym e ∙ f in cc)
@@ -31,6 +28,16 @@ module _ {S : Type 0} (covers : S → GridPoint → ℕ → Bool) where
         let is : get_or (map has_no_best_pad bests) k false ≡ has_no_best_pad (get_or bests k None) = get_or-map has_no_best_pad bests k None false (omega (arith, h, size)) in
         let tells = told pads (hole_at holes k) (get_or bests k None) (all.each k h) in
         (λ e. tells.0 (sym is ∙ e), λ bare. is ∙ tells.1 bare);
+  }
+
+  -- holes that one pad covers at both ends are not bare
+  pub none_bare : (pads : List S) (holes : List Drilled) (place : ℕ) (pad : S) → place < length pads → ((s : S) → get_or pads place s ≡ pad) → list_all (λ d. covers_both_ends covers pad d.hole.from d.hole.to 0) holes ≡ true → AreBare covers pads holes (replicate (length holes) false)
+  none_bare pads holes place pad inside is all = record {
+    size = length-replicate (length holes) false;
+    each = λ k h. (
+      λ e. never false (sym (get_or-replicate (length holes) k false false h) ∙ e) refl,
+      λ bare. never true refl (sym all ∙ list_all_at (λ (d : Drilled). covers_both_ends covers pad d.hole.from d.hole.to 0) holes k default_hole h (ap (λ s. covers_both_ends covers s (hole_at holes k).from (hole_at holes k).to 0) (sym (is pad)) ∙ bare pad place 0 inside)),
+    );
   }
 
 -- one more pad that covers nothing of a zone

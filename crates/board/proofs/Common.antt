@@ -27,8 +27,9 @@ pub use Rattle.ring_rules.specs.declared.finding.Drilled.{Drilled}
 pub use Rattle.std.proofs.lemmas.Bool.{cases_eq, cases_lt, false≢true}
 pub use Rattle.std.proofs.lemmas.Bool.Decides.{nat_tests}
 pub use Rattle.std.proofs.lemmas.Int.{clamps, ints}
-pub use Rattle.std.proofs.lemmas.List.{get_or-map, get_or-set_other, get_or-set_same, get_or-take, get_or_append_left, get_or_default, get_or_push, length-append, length-map, length-set, length-take-le, map_more, take_at}
+pub use Rattle.std.proofs.lemmas.List.{get_or-map, get_or-replicate, get_or-set_other, get_or-set_same, get_or-take, get_or_append_left, get_or_default, get_or_push, length-append, length-map, length-replicate, length-set, length-take-le, map_more, take_at}
 pub use Rattle.std.proofs.lemmas.List.Elements.{All-get_or}
+pub use Rattle.std.proofs.lemmas.Result.{IfOk-weaker}
 pub use Rattle.std.specs.Int.{int_max, int_min}
-pub use Rattle.std.specs.List.{All, Contains, count_by, enumerate_from, filter, flat_map, list_any}
-pub use Rattle.std.specs.Prelude.{if◌then◌else◌, int_lt, nat_le, nat_lt, unsigned_abs, ◌&&◌, ◌||◌}
+pub use Rattle.std.specs.List.{All, Contains, count_by, enumerate_from, filter, flat_map, list_all, list_any}
+pub use Rattle.std.specs.Prelude.{if◌then◌else◌, int_lt, nat_le, nat_lt, replicate, unsigned_abs, ◌&&◌, ◌||◌}

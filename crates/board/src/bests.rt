@@ -134,6 +134,30 @@ impl<S: DepthShape> PadsOnBoard<'_, S> {
     }
 }
 
+/// The best pad of each hole, in the order of the holes, by an index of these: one serves for all layers.
+///
+/// # Errors
+///
+/// Where there is no memory.
+pub fn best_pads_by<S: DepthShape>(
+    alloc: Global,
+    index: &HoleIndex,
+    pads: &[S],
+    holes: &[Drilled],
+) -> Result<Vec<Option<BestPad>>, AllocError>
+    requires { IsIndexOf holes.now index.now }
+    ensures { IfOk result (λ bests. AreBestPads S.covers pads.now holes.now bests.items) }
+{
+    let board = PadsOnBoard {
+        pads,
+        holes,
+        index,
+        whole: entry_zone(holes),
+        few: holes.len().isqrt(),
+    };
+    board.best_pads(alloc)
+}
+
 /// The best pad of each hole, in the order of the holes.
 ///
 /// # Errors
@@ -148,12 +172,5 @@ pub fn best_pads<S: DepthShape>(
 {
     let (width, height) = mean_zone_size(&[pads]);
     let index = HoleIndex::new(alloc, holes, width, height)?;
-    let board = PadsOnBoard {
-        pads,
-        holes,
-        index: &index,
-        whole: entry_zone(holes),
-        few: holes.len().isqrt(),
-    };
-    board.best_pads(alloc)
+    best_pads_by(alloc, &index, pads, holes)
 }

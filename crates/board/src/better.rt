@@ -21,12 +21,17 @@ pub(crate) fn required(best: Option<BestPad>, place: usize) -> i64
     }
 }
 
-/// Whether the pad at a place is better for a hole than its best so far. No root is taken.
-fn is_better<S: DepthShape>(pad: &S, place: usize, hole: &Hole, best: Option<BestPad>) -> bool
+/// Whether the pad at a place is better for a hole than its best so far. No root is taken, and one end of a round hole is asked for.
+pub(crate) fn is_better<S: DepthShape>(
+    pad: &S,
+    place: usize,
+    hole: &Hole,
+    best: Option<BestPad>,
+) -> bool
     ensures { result ≡ covers_both_ends S.covers pad.now hole.now.from hole.now.to (required_depth best place) }
 {
     let reach = required(best, place);
-    pad.covers(hole.from(), reach) && pad.covers(hole.to(), reach)
+    pad.covers(hole.from(), reach) && (hole.is_round() || pad.covers(hole.to(), reach))
 }
 
 /// A pad that is better for a hole, as its best pad.

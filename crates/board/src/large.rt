@@ -296,7 +296,7 @@ fn try_ordered<S: DepthShape>(
     Ok(())
 }
 
-/// Tries large pads at all holes.
+/// Tries large pads at all holes. Where there are none, no hole is looked at.
 ///
 /// # Errors
 ///
@@ -313,6 +313,9 @@ pub(crate) fn try_large<S: DepthShape>(
     ensures improves { OnOk result (AllImprove S.covers pads.now holes.now bests.old bests.new) }
     ensures below { OnOk result ((place : ℕ) → Contains large.items place → IsNoBetterForAll S.covers pads.now place holes.now bests.new) }
 {
+    if large.is_empty() {
+        return Ok(());
+    }
     let order = ordered(pads, large)?;
     try_ordered(alloc, pads, &order, holes, bests)?;
     Ok(())

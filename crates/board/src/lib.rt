@@ -27,7 +27,7 @@ mod shapes;
 
 pub use bare::bare_holes;
 pub use best::BestPad;
-pub use bests::best_pads;
+pub use bests::{best_pads, best_pads_by};
 pub use board::{Board, hole_count};
 pub use deep::{DepthShape, depth_of_hole};
 pub use gap::gap_between;

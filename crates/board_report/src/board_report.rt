@@ -1,9 +1,11 @@
 //! The report on a package.
 
-ghost use Rattle.std.specs.Prelude.{◌≡◌, IfOk, length};
+ghost use Rattle.std.specs.Prelude.{◌≡◌, IfOk, length, true};
 ghost use Rattle.std.specs.List.{All};
 ghost use Rattle.ring_rules.specs.WithoutFindings.{NamesPlaces};
+ghost use Rattle.ring_rules.specs.Findings.{gap_findings};
 ghost use Rattle.board.specs.Boards.{board_findings};
+ghost use Rattle.board.specs.Meets.{MeetsGaps, allows};
 ghost use Rattle.board_report.specs.Inner.EntriesSoFar.{AreBoardBests};
 ghost use Rattle.board_report.specs.BoardReport.{IsBoardReport};
 
@@ -12,22 +14,54 @@ use crate::gaps::gap_lacks;
 use crate::heads::{heads, role_conflicts};
 use crate::measure::measure_of;
 use crate::rings::ring_lacks;
-use board::{BestPad, Board, ring_findings_from_bests};
+use board::laws::gaps_pass;
+use board::{BestPad, Board, Met, ring_findings_from_bests};
 use grid_units::Rules;
 use pad_shapes::WidePad;
 use report::BoardReport;
 use ring_rules::laws::findings_name_places;
-use ring_rules::{Finding, gap_findings};
+use ring_rules::{Drilled, Finding, gap_findings};
 use std::alloc::{AllocError, Global};
 
-/// The findings of a board: those of rings, by the best pads of its layers, then those of gaps. They name layers and holes of the board.
+/// Whether the gap that is met allows that of the rules.
+fn allows_gap(met: Met, rules: Rules) -> bool
+    ensures { result ≡ true → allows met rules.gap }
+{
+    match met {
+        Met::Any => true,
+        Met::UpTo(length) => rules.gap() <= length,
+        Met::None => false,
+    }
+}
+
+/// The findings of gaps, by the greatest gap that the holes meet: where that allows the rule there is none, and none is searched for.
+fn gaps_beyond(
+    alloc: Global,
+    holes: &[Drilled],
+    met: Met,
+    rules: Rules,
+) -> Result<Vec<Finding>, AllocError>
+    requires { MeetsGaps holes.now met }
+    ensures { IfOk result (λ findings. findings.items ≡ gap_findings rules.gap holes.now) }
+{
+    gaps_pass();
+    if allows_gap(met, rules) {
+        return Ok(Vec::new(alloc));
+    }
+    gap_findings(alloc, holes, rules)
+}
+
+/// The findings of a board: those of rings, by the best pads of its layers, then those of gaps, by the greatest gap that it meets. They name
+/// layers and holes of the board.
 fn findings_on(
     alloc: Global,
     board: &Board,
     bests: &[Vec<Option<BestPad>>],
+    gap: Met,
     rules: Rules,
 ) -> Result<Vec<Finding>, AllocError>
-    requires { AreBoardBests board.now bests.now }
+    requires bests { AreBoardBests board.now bests.now }
+    requires gap { MeetsGaps board.now.holes gap }
     ensures are { IfOk result (λ found. found.items ≡ board_findings rules board.now) }
     ensures places { IfOk result (λ found. All (NamesPlaces (length board.now.layers) (length board.now.holes)) found.items) }
 {
@@ -35,7 +69,7 @@ fn findings_on(
     let layers = board.layers(alloc)?;
     let holes = board.holes();
     let mut findings = ring_findings_from_bests(alloc, &layers, holes, bests, rules)?;
-    let gaps = gap_findings(alloc, holes, rules)?;
+    let gaps = gaps_beyond(alloc, holes, gap, rules)?;
     findings.extend_from_slice(&gaps)?;
     Ok(findings)
 }
@@ -49,7 +83,7 @@ pub fn report_on(alloc: Global, board: &Board, rules: Rules) -> Result<BoardRepo
     ensures { IfOk result (IsBoardReport rules board.now) }
 {
     let (measure, bests) = measure_of(alloc, board, rules.profile(), true)?;
-    let findings = findings_on(alloc, board, &bests, rules)?;
+    let findings = findings_on(alloc, board, &bests, measure.meets.gap, rules)?;
     let files = files_with_holes(alloc, board)?;
     Ok(BoardReport {
         rules,

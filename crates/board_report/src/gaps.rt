@@ -70,7 +70,7 @@ pub(crate) fn gap_lacks(
     rules: Rules,
 ) -> Result<Vec<GapLack>, AllocError>
     requires files { AreFilesWithHoles board.now files.now }
-    requires places { All (NamesPlaces (length board.now.layers) (length board.now.holes)) findings.now }
+    requires named { All (NamesPlaces (length board.now.layers) (length board.now.holes)) findings.now }
     ensures { IfOk result (λ output. AllZip (IsGapEntry board.now rules.gap) (filter is_gap findings.now) output.items) }
 {
     let mut output = Vec::new(alloc);

@@ -11,12 +11,13 @@ use crate::rows::push_layer_lines;
 use crate::units::unit_mistakes;
 use board::laws::{gaps_pass, rings_pass};
 use board::{
-    BestPad, Board, RingsMet, best_pads, gap_met_of_nearest, met_with_layer, met_without_layers,
+    BestPad, Board, RingsMet, best_pads_by, gap_met_of_nearest, met_with_layer, met_without_layers,
     nearest_holes,
 };
 use grid_units::Profile;
 use pad_shapes::WidePad;
 use report::{GapLine, Measure, Meets, RingLine, UnitMistake};
+use ring_rules::{HoleIndex, mean_zone_size};
 use std::alloc::{AllocError, Global};
 
 /// The greatest rings that a board meets, the lines of its rings and scales, and the best pads of its layers if they are kept.
@@ -46,7 +47,7 @@ fn keep(
 }
 
 /// The rings of a board, and its scales. The best pads of each layer are searched for once. They are kept only if `keeps` says so, since
-/// those of all layers take memory. The drill files that have holes are listed once for all layers.
+/// those of all layers take memory. The drill files that have holes are listed once for all layers, and one index of the holes serves all.
 fn rings_on(
     alloc: Global,
     board: &Board,
@@ -61,12 +62,14 @@ fn rings_on(
     let files = files_with_holes(alloc, board)?;
     let layers = board.layers(alloc)?;
     let holes = board.holes();
+    let (width, height) = mean_zone_size(&layers);
+    let hole_index = HoleIndex::new(alloc, holes, width, height)?;
     let mut met = met_without_layers(&layers, holes);
     let mut lines = Vec::new(alloc);
     let mut scales = Vec::new(alloc);
     let mut kept = Vec::new(alloc);
     for layer in 0..layers.len() {
-        let bests = best_pads(alloc, layers[layer], holes)?;
+        let bests = best_pads_by(alloc, &hole_index, layers[layer], holes)?;
         if layer == 0 {
             scales = unit_mistakes(alloc, board, layers[layer], &bests)?;
         }

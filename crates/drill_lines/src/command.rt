@@ -100,7 +100,8 @@ impl OptionalDec {
     pub fn or(self, other: OptionalDec) -> OptionalDec
         ensures { result ≡ option_or self other }
     {
-        if self.get().is_some() { self } else { other }
+        let named = self.units.get();
+        if named.is_some() { self } else { other }
     }
 }
 

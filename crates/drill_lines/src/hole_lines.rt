@@ -34,21 +34,24 @@ fn digits_in(settings: &Settings) -> (u8, u8)
     }
 }
 
-/// The value of a coordinate: with a point it is a decimal, without one it is read in the format.
+/// The value of a coordinate, by its run: with a point it is a decimal, without one it is read in the format.
+///
+/// # Errors
+///
+/// The first reason of `Dec::read` where the run has a point, else that of `from_zeros`.
 #[tactic(auto, unfolding(crate::specs::HoleLines::coordinate_of))]
-fn coordinate_of(settings: &Settings, run: &[u8]) -> Result<Dec, Reason>
+pub fn coordinate_of(settings: &Settings, run: &[u8]) -> Result<Dec, Reason>
     ensures { result ≡ coordinate_of settings.now run.now }
 {
+    if !has_point(run) {
+        let (whole, decimals) = digits_in(settings);
+        return from_zeros(run, whole, decimals, settings.zeros.unwrap_or(Zeros::Full));
+    }
     let (value, rest) = Dec::read_prefix(run);
     match value {
-        Some(value) if rest.is_empty() => return Ok(value),
-        _ => {}
+        Some(value) if rest.is_empty() => Ok(value),
+        _ => Dec::read(run),
     }
-    if has_point(run) {
-        return Dec::read(run);
-    }
-    let (whole, decimals) = digits_in(settings);
-    from_zeros(run, whole, decimals, settings.zeros.unwrap_or(Zeros::Full))
 }
 
 /// The value of a coordinate that may be left out.

@@ -15,6 +15,7 @@ mod tools;
 pub use canonical::{is_sayable, write_line};
 pub use command::{Coordinates, DrillCommand, DrillFormat, OptionalDec, Part, Settings};
 pub use header::file_format;
+pub use hole_lines::coordinate_of;
 pub use laws::line_grammar;
 pub use line::read_line;
 pub use line_reader::LineReader;

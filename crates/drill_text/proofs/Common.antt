@@ -1,5 +1,5 @@
 -- Names that proofs of this crate cite, passed on from one place. Declares nothing.
-pub use Rattle.std.proofs.Common.{All, Bool, Err, IfOk, IfSome, IsSome, List, None, Ok, Option, Result, Some, [], add-one, ap, append_assoc, arith, cond, drop, eqb, false, get_or, inl, inr, is_none, is_some, leb, length, lit≤, ltb, map, nat_eq, nat_le, not, of_z, pos, refl, rules, subst, suc, sym, take, to_z, true, unsigned_abs, unwrap_or, vec_len, w64, zero, ℕ, ℤ, ◌&&◌, ◌*◌, ◌++◌, ◌+◌, ◌-◌, ◌/◌, ◌<◌, ◌||◌, ◌↔◌, ◌∙◌, ◌∷◌, ◌≡◌, ◌≢◌, ◌≤ℤ◌, ◌≤◌, ◌⊎◌}
+pub use Rattle.std.proofs.Common.{All, Bool, Err, IfOk, IfSome, IsSome, List, None, Ok, Option, Result, Some, [], add-one, ap, append_assoc, arith, cond, drop, eqb, false, get_or, inl, inr, is_none, is_some, leb, length, lit≤, ltb, map, nat_eq, nat_le, not, of_z, pos, refl, replicate, rules, subst, suc, sym, take, to_z, true, unsigned_abs, unwrap_or, vec_len, w64, zero, ℕ, ℤ, ◌&&◌, ◌*◌, ◌++◌, ◌+◌, ◌-◌, ◌/◌, ◌<◌, ◌||◌, ◌↔◌, ◌∙◌, ◌∷◌, ◌≡◌, ◌≢◌, ◌≤ℤ◌, ◌≤◌, ◌⊎◌}
 pub use Rattle.drill_lines.proofs.Answered.{means, written_is_answered}
 unfoldable pub use Rattle.drill_lines.proofs.Answered.{read_in_part}
 pub use Rattle.drill_lines.specs.HoleLines.{Runs, field, format_in, runs_of, zeros_in}
@@ -21,8 +21,8 @@ pub use Rattle.drill_lines.specs.declared.command.Settings.{Settings}
 pub use Rattle.drill_text.specs.Grammar.{AreEntries, IsEntry, IsText, lines_of}
 pub use Rattle.drill_text.specs.Holding.{Advances, HasFault, Holds, Refuses, RefusesText}
 pub use Rattle.drill_text.specs.Holes.{DrillPath, coordinate_in, diameter_after, hole_of, holes_at, holes_of, path_at, point_at, unit_after, unit_or}
-pub use Rattle.drill_text.specs.Inner.FastPath.{HasLeadingDecimal, HasLeadingHit, HasLineEnd}
-pub use Rattle.drill_text.specs.Inner.StateSteps.{Applies, AppliesOrRefuses, AreWordsAfter, DrillsOrRefuses, IsStateAfter, IsWidth, after, drill_path, given_last, heard, hole_between, hole_in, hole_rule, length_in, mark_of, at_last_point, no_point, own_broken, path_between, picked_plating, plating_in, point_in, resolved_point, round_hole, settings_with, state_of, width_in, width_of}
+pub use Rattle.drill_text.specs.Inner.FastPath.{HasLeadingHit, HasLineEnd, IsLeadingRun, MayLead}
+pub use Rattle.drill_text.specs.Inner.StateSteps.{Applies, AppliesOrRefuses, AreWordsAfter, DrillsOrRefuses, IsStateAfter, IsWidth, after, drill_path, given_last, heard, hole_between, hole_in, hole_rule, mark_of, at_last_point, no_point, own_broken, path_between, picked_plating, plating_in, point_in, resolved_point, settings_with, state_of}
 pub use Rattle.drill_text.specs.Keeping.{HasReadIn, ResultsIn, ResultsInLine}
 pub use Rattle.drill_text.specs.Laws.{DrilledHolesAreListed, DrillsAtMostOneList, IsTextOfAtMostOne, IsWithinLimits, ListedHolesAreDrilled, ReadIsWritten, SpelledIsWritten, WideHolesAreDrilled, WrittenIsRead}
 pub use Rattle.drill_text.specs.Lines.{HasNoBreak, Splits, bytes_of, ended_line}
@@ -32,7 +32,7 @@ pub use Rattle.drill_text.specs.Plating.{IsCalled, calls_plated, calls_unplated,
 pub use Rattle.drill_text.specs.Profiles.{Kind, Reads, ReadsAsBy, ReadsAsIn, ReadsBy, ReadsIn, Shows, ShowsBy, add_unless, commands_with, checked_by, commands_by, commands_at_end, is_finish, place_after, place_after_count, plain, read_by, shown_by, shown_within, spelled_in, with_rest}
 unfoldable pub use Rattle.drill_text.specs.Profiles.{step_in}
 pub use Rattle.drill_text.specs.Rules.{applies, broken_rule, drills, has_bad_size, has_no_tool, lacks_unit, max_holes, redefines_tool}
-unfoldable pub use Rattle.drill_text.specs.Rules.{first_broken}
+unfoldable pub use Rattle.drill_text.specs.Rules.{first_broken, width_with}
 pub use Rattle.drill_text.specs.Texts.{AreWithinLimit, IsDrillText, ReadsAs, SpellsText, spelled_after}
 pub use Rattle.drill_text.specs.Writing.{are_sayable, canonical_lines, drill_sayable, is_after_end, part_from, part_with, vec_bytes, rewritten_text}
 pub use Rattle.drill_text.specs.declared.kept.Keep.{Keep}
@@ -66,5 +66,5 @@ pub use Rattle.std.proofs.lemmas.List.Concat.{flat_map-append}
 pub use Rattle.std.proofs.lemmas.List.Elements.{All-from_get_or, filter_map-append, recursion_from_All}
 pub use Rattle.std.proofs.lemmas.Result.{IfErr-weaker, err_from_is_err_and}
 pub use Rattle.std.specs.List.{AllByRecursion, AllZip, Contains, cons_option, filter, filter_map, find, flat_map, fold, list_all, list_any, onto_first, prefix_len}
-pub use Rattle.std.specs.Option.{ok_or, option_and_then, option_map, option_or, option_to_list}
+pub use Rattle.std.specs.Option.{ok_or, option_and_then, option_map, option_map_or, option_or, option_to_list}
 pub use Rattle.std.specs.Prelude.{codes, int_le}

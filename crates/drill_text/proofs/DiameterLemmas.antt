@@ -1,5 +1,5 @@
 -- Lengths of a drill file in pm.
-use Rattle.drill_text.proofs.Common.{◌≡◌, ℤ, pos, ◌≤ℤ◌, ◌≤◌, ◌||◌, ◌↔◌, Bool, true, false, cond, unsigned_abs, refl, sym, ap, subst, ◌∙◌, arith, Option, Some, None, Result, Ok, Err, IfOk, IsSome, IfSome, ok_or, ints, ltb-false, Inch, Millimetre, Reason, TooFar, picometres, is_too_far, within_limit, guard_ok, IsWidth}
+use Rattle.drill_text.proofs.Common.{◌≡◌, ℕ, ℤ, pos, ◌≤ℤ◌, ◌≤◌, ◌||◌, ◌↔◌, Bool, true, false, cond, unsigned_abs, refl, sym, ap, subst, ◌∙◌, arith, Option, Some, None, Result, Ok, Err, IfOk, IsSome, IfSome, ok_or, ints, ltb-false, Inch, Millimetre, Reason, TooFar, picometres, is_too_far, within_limit, guard_ok, eqb, int_le, option_map_or, unwrap_or, NoTool, BadSize, coordinate_in, IsWidth, width_with}
 use Rattle.grid_units.specs.declared.lengths.Unit.{Unit as Units}
 use Rattle.grid_units.specs.Points.{GridPoint, IsCoordinate, max_coordinate}
 
@@ -15,13 +15,24 @@ near p w some e =
     let le : unsigned_abs p ≤ max_coordinate = ltb-false _ _ g.0 in
     subst IsWidth g.1 (some, omega (arith, ints, le))
 
-pub width_range : (unit : Units) (v w : ℤ) → pos 1 ≤ℤ v → within_limit (picometres unit 8 v) ≡ Ok w → IsWidth w
-width_range Inch v w some e = near (picometres Inch 8 v) w (omega (arith, ints, some)) e
-width_range Millimetre v w some e = near (picometres Millimetre 8 v) w (omega (arith, ints, some)) e
-
-pub width_ok : (unit : Units) (v : ℤ) (r : Result ℤ Reason) → pos 1 ≤ℤ v → r ≡ within_limit (picometres unit 8 v) → IfOk r IsWidth
-width_ok unit v (Ok w) some e = width_range unit v w some (sym e)
+width_ok : (unit : Units) (v : ℤ) (r : Result ℤ Reason) → pos 1 ≤ℤ v → r ≡ within_limit (picometres unit 8 v) → IfOk r IsWidth
+width_ok Inch v (Ok w) some e = near (picometres Inch 8 v) w (omega (arith, ints, some)) (sym e)
+width_ok Millimetre v (Ok w) some e = near (picometres Millimetre 8 v) w (omega (arith, ints, some)) (sym e)
 width_ok unit v (Err reason) some e = tt
+
+above_zero : (unit : Units) (v : ℤ) → int_le (picometres unit 8 v) (pos 0) ≡ false → pos 1 ≤ℤ v
+above_zero Inch v e = grind (arith, ints)
+above_zero Millimetre v e = grind (arith, ints)
+
+-- a diameter that breaks no rule is one that a hole can have
+pub width_held : (unit : Units) (tool : Option ℕ) (d : Option ℤ) → IfOk (width_with unit tool d) IsWidth
+unfolding width_with
+width_held unit tool d = by (option_map_or (λ number. eqb number 0) tool true) (int_le (coordinate_in unit d) (pos 0)) refl
+  where
+    by : (t u : Bool) → int_le (coordinate_in unit d) (pos 0) ≡ u → IfOk (cond t (Err NoTool) (cond u (Err BadSize) (within_limit (coordinate_in unit d)))) IsWidth
+    by true u e = tt
+    by false true e = tt
+    by false false e = width_ok unit (unwrap_or d (pos 0)) (within_limit (coordinate_in unit d)) (above_zero unit (unwrap_or d (pos 0)) e) refl
 
 -- a length that is within the limit, and is a coordinate
 pub within : (a x : ℤ) → Ok x ≡ within_limit a → (is_too_far a ≡ false) × (x ≡ a) × IsCoordinate x

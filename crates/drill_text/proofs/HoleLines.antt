@@ -1,5 +1,5 @@
 -- What is drilled, and the first rule that it breaks.
-use Rattle.drill_text.proofs.Common.{◌≡◌, ℕ, ℤ, Bool, true, false, cond, ◌||◌, ◌/◌, unsigned_abs, nat_le, [], ◌∷◌, Option, None, Some, Result, Ok, Err, refl, find, Reason, NoUnit, UnitConflict, FormatConflict, Redefined, UnknownTool, NoTool, BadSize, TooFar, TooManyHoles, ◌>>=◌, is_too_far, within_limit, GridHole, Coordinates, DrillCommand, StateView, option_or, DrillPath, hole_of, unit_or, first_broken, applies, has_no_tool, has_bad_size, redefines_tool, max_holes, path_between, no_point, hole_in, width_in, width_of, point_in, hole_between, round_hole}
+use Rattle.drill_text.proofs.Common.{◌≡◌, ℕ, ℤ, Bool, true, false, cond, ◌||◌, ◌/◌, unsigned_abs, nat_le, [], ◌∷◌, Option, None, Some, Result, Ok, Err, refl, find, Reason, NoUnit, UnitConflict, FormatConflict, Redefined, UnknownTool, NoTool, BadSize, TooFar, TooManyHoles, ◌>>=◌, is_too_far, within_limit, GridHole, Coordinates, DrillCommand, StateView, DrillPath, hole_of, first_broken, applies, has_no_tool, has_bad_size, redefines_tool, max_holes, path_between, no_point, hole_in, width_with}
 use Rattle.grid_units.specs.Points.{GridPoint}
 use Rattle.drill_lines.specs.declared.command.DrillCommand.TheVariants as command
 
@@ -43,16 +43,16 @@ whole width from to = record { from = from; to = to; radius = unsigned_abs width
 
 -- a slot breaks the rules that its hole does
 pub slot_rule : (s : StateView) (count : ℕ) (p q : Coordinates) → hole_in s count p q ≡ ok_unless (first_broken s count (Some (path_between s p q)) (command.Slot p q)) (hole_of (path_between s p q))
-unfolding first_broken within_limit whole
+unfolding first_broken within_limit width_with whole
 slot_rule s count p q =
     let d = path_between s p q in
-    rule_order (width_in s) d.from d.to whole (has_no_tool s) (has_bad_size d) (is_too_far d.diameter) (is_too_far d.from.x) (is_too_far d.from.y) (is_too_far d.to.x) (is_too_far d.to.y) (nat_le max_holes count)
+    rule_order d.diameter d.from d.to whole (has_no_tool s) (has_bad_size d) (is_too_far d.diameter) (is_too_far d.from.x) (is_too_far d.from.y) (is_too_far d.to.x) (is_too_far d.to.y) (nat_le max_holes count)
 
 pub hit_rule : (s : StateView) (count : ℕ) (p : Coordinates) → hole_in s count p no_point ≡ ok_unless (first_broken s count (Some (path_between s p no_point)) (command.Hit p)) (hole_of (path_between s p no_point))
-unfolding first_broken within_limit whole
+unfolding first_broken within_limit width_with whole
 hit_rule s count p =
     let d = path_between s p no_point in
-    rule_order (width_in s) d.from d.to whole (has_no_tool s) (has_bad_size d) (is_too_far d.diameter) (is_too_far d.from.x) (is_too_far d.from.y) (is_too_far d.to.x) (is_too_far d.to.y) (nat_le max_holes count)
+    rule_order d.diameter d.from d.to whole (has_no_tool s) (has_bad_size d) (is_too_far d.diameter) (is_too_far d.from.x) (is_too_far d.from.y) (is_too_far d.to.x) (is_too_far d.to.y) (nat_le max_holes count)
 
 -- a command that breaks no rule defines no tool again
 fourth : (a b c d : Bool) (q r s t : Reason) (rest : Option Reason) → cond a (Some q) (cond b (Some r) (cond c (Some s) (cond d (Some t) rest))) ≡ None → d ≡ false
@@ -67,17 +67,3 @@ unfolding first_broken
 not_redefined s count drill_path c e =
     let a = applies s count drill_path c in
     fourth (a NoUnit) (a UnitConflict) (a FormatConflict) (redefines_tool s c) NoUnit UnitConflict FormatConflict Redefined (find a (UnknownTool ∷ NoTool ∷ BadSize ∷ TooFar ∷ TooManyHoles ∷ [])) e
-
--- a value that is asked for twice
-bind_twice : {A B E : Type 0} (r : Result A E) (f : A → A → Result B E) → (r >>= λ a. (r >>= λ b. f a b)) ≡ (r >>= λ a. f a a)
-bind_twice (Ok x) f = refl
-bind_twice (Err e) f = refl
-
--- a hit drills a round hole
-pub round_hole_is : (s : StateView) (count : ℕ) (p : Coordinates) → hole_in s count p no_point ≡ round_hole s count (option_or p.x s.x) (option_or p.y s.y)
-round_hole_is s count p = by (width_of s)
-  where
-    by : (w : Result ℤ Reason) → (w >>= λ width. (point_in (unit_or s.settings.unit) (option_or p.x s.x) (option_or p.y s.y) >>= λ from. (point_in (unit_or s.settings.unit) (option_or p.x s.x) (option_or p.y s.y) >>= λ to. hole_between count width from to)))
-        ≡ (w >>= λ width. (point_in (unit_or s.settings.unit) (option_or p.x s.x) (option_or p.y s.y) >>= λ at. hole_between count width at at))
-    by (Ok width) = bind_twice (point_in (unit_or s.settings.unit) (option_or p.x s.x) (option_or p.y s.y)) (hole_between count width)
-    by (Err e) = refl

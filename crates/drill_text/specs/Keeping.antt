@@ -25,6 +25,10 @@ pub record KeepsCommands (kept : KeptCommands) (keep : Keep) (taken : List Drill
   pub text : text_or_fault kept.text.items ≡ text_or_fault (kept_text keep taken)
   pub finished : kept.is_finished ≡ list_any is_finish taken
 
+-- whatever was kept, it is kept with this command more
+abbrev pub KeepsNext : KeptCommands → DrillCommand → KeptCommands → Type 0
+KeepsNext old c new = (keep : Keep) (taken : List DrillCommand) → KeepsCommands old keep taken → KeepsCommands new keep (taken ++ c ∷ [])
+
 -- the state is that after just these commands of a file whose platings are known so, and what was asked for is kept of them
 pub record HasRead (state : DrillState) (kept : KeptCommands) (plating : PlatingKind) (keep : Keep) (commands : List DrillCommand) : Type 0 where
   pub is_state : IsStateAfter state plating commands

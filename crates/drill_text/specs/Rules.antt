@@ -1,10 +1,10 @@
 -- The rules of a legal drill file (docs/FORMATS.md, Rules of a drill file).
-use Rattle.std.specs.Prelude.{ℕ, pos, Bool, true, false, not, ◌==◌, ◌&&◌, ◌||◌, nat_le, int_le, List, [], ◌∷◌, length, Option, None, Some, is_none, is_some}
+use Rattle.std.specs.Prelude.{ℕ, ℤ, pos, Bool, true, false, not, ◌==◌, ◌&&◌, ◌||◌, nat_le, int_le, List, [], ◌∷◌, length, Option, None, Some, is_none, is_some, Result, Err, if◌then◌else◌}
 use Rattle.std.specs.Option.{option_map_or}
 use Rattle.std.specs.List.{find}
 use Rattle.grid_units.specs.declared.fault.Reason.{Reason}
 use Rattle.grid_units.specs.declared.fault.Reason.TheVariants as reason
-use Rattle.grid_units.specs.Numbers.{is_too_far}
+use Rattle.grid_units.specs.Numbers.{is_too_far, within_limit}
 use Rattle.grid_units.specs.declared.lengths.Unit.{Unit as Units}
 use Rattle.grid_units.specs.declared.lengths.Unit.TheVariants as unit
 use Rattle.grid_units.specs.declared.zero_filling.Zeros.{Zeros}
@@ -13,7 +13,7 @@ use Rattle.drill_lines.specs.declared.command.DrillCommand.{DrillCommand}
 use Rattle.drill_lines.specs.declared.command.DrillCommand.TheVariants as command
 use Rattle.drill_lines.specs.Formats.{Digits}
 use Rattle.drill_text.specs.Lookback.{StateView, state_after, unit_set, zeros_set, format_set}
-use Rattle.drill_text.specs.Holes.{DrillPath, path_at, holes_of}
+use Rattle.drill_text.specs.Holes.{DrillPath, coordinate_in, path_at, holes_of}
 
 -- ---- one rule at a time
 
@@ -68,6 +68,12 @@ drills _ = false
 -- no tool was picked, or the last pick is 0
 abbrev pub has_no_tool : StateView → Bool
 has_no_tool s = option_map_or (λ number. number == 0) s.tool true
+
+-- the diameter in pm of a picked tool, which is given this one; or NoTool, BadSize or TooFar, in this order
+unfoldable pub width_with : Units → Option ℕ → Option ℤ → Result ℤ Reason
+width_with unit tool diameter =
+    if option_map_or (λ number. number == 0) tool true then Err reason.NoTool
+    else if int_le (coordinate_in unit diameter) (pos 0) then Err reason.BadSize else within_limit (coordinate_in unit diameter)
 
 -- a tool is defined with a diameter that is not above 0, as `T1C0.0`
 abbrev pub has_bad_diameter : DrillCommand → Bool

@@ -1,11 +1,9 @@
 //! What is kept of the commands of a drill file.
 
-ghost use Rattle.std.specs.Prelude.{◌≡◌, [], ◌∷◌, ◌++◌, List, OnOk};
-ghost use Rattle.drill_lines.specs.declared.command.DrillCommand.{DrillCommand as TheCommand};
-ghost use Rattle.drill_text.specs.declared.kept.Keep.{Keep as TheKeep};
+ghost use Rattle.std.specs.Prelude.{◌≡◌, [], OnOk};
 
 use crate::writer::put_line;
-use drill_lines::DrillCommand;
+use drill_lines::{Coordinates, DrillCommand};
 use grid_units::TEXT_LIMIT;
 use std::alloc::{AllocError, Global};
 
@@ -31,7 +29,8 @@ pub(crate) struct KeptCommands {
 }
 
 impl KeptCommands {
-    ghost use Rattle.drill_text.specs.Keeping.{KeepsCommands};
+    ghost use Rattle.drill_lines.specs.declared.command.DrillCommand.TheVariants as command;
+    ghost use Rattle.drill_text.specs.Keeping.{KeepsCommands, KeepsNext};
 
     /// Nothing is kept yet.
     pub(crate) fn new(alloc: Global, keep: Keep) -> KeptCommands
@@ -47,7 +46,7 @@ impl KeptCommands {
 
     /// Adds a command, or its line.
     pub(crate) fn add(&mut self, command: DrillCommand) -> Result<(), AllocError>
-        ensures { (keep : TheKeep) (before : List TheCommand) → KeepsCommands self.old keep before → OnOk result (KeepsCommands self.new keep (before ++ command ∷ [])) }
+        ensures { OnOk result (KeepsNext self.old command self.new) }
     {
         if matches!(command, DrillCommand::Finish) {
             self.is_finished = true;
@@ -60,6 +59,16 @@ impl KeptCommands {
             Keep::Text if self.text.len() <= TEXT_LIMIT => put_line(&mut self.text, &command),
             Keep::Text | Keep::Holes => Ok(()),
         }
+    }
+
+    /// Adds a hit at a point, or its line. Where neither is kept, no command is made of it.
+    pub(crate) fn add_hit(&mut self, point: Coordinates) -> Result<(), AllocError>
+        ensures { OnOk result (KeepsNext self.old (command.Hit point) self.new) }
+    {
+        if matches!(self.keep, Keep::Holes) {
+            return Ok(());
+        }
+        self.add(DrillCommand::Hit(point))
     }
 
     /// Whether the end of the file is among the commands.

@@ -2,6 +2,7 @@
 
 ghost use Rattle.std.specs.Prelude.{◌≡◌, ◌≢◌, ◌≤◌, ◌<◌, ◌+◌, true, ℕ, suc, List, All, length, vec_len, take, slice_index, Some, None, Ok, Err, OnOk, IfOk, IfErr, IfSome};
 ghost use Rattle.drill_lines.specs.declared.command.DrillCommand.{DrillCommand as TheCommand};
+ghost use Rattle.drill_lines.specs.declared.command.DrillCommand.TheVariants as command;
 ghost use Rattle.grid_units.specs.declared.fault.Fault.{Fault};
 ghost use Rattle.grid_units.specs.declared.fault.Fail.TheVariants.{Refused};
 ghost use Rattle.grid_units.specs.Limits.{line_limit, text_limit};
@@ -82,6 +83,26 @@ fn keep(
     match state.step(&command) {
         Ok(()) => {
             kept.add(command)?;
+            Ok(())
+        }
+        Err(ItemFail::Memory) => Err(Fail::Memory),
+        Err(ItemFail::Refused(reason)) => Err(refusal(place, byte, reason)),
+    }
+}
+
+/// Checks a hit, and adds it if it breaks no rule. No command is made of it where none is kept.
+fn keep_hit(
+    place: u64,
+    byte: u64,
+    point: Coordinates,
+    state: &mut DrillState,
+    kept: &mut KeptCommands,
+) -> Result<(), Fail>
+    ensures { (plating : TheKind) (keep : TheKeep) (before : List TheCommand) → HasRead state.old kept.old plating keep before → ResultsIn result state.new kept.new plating keep (with_place place byte (checked_by (rule_in plating) before (Some (command.Hit point)))) }
+{
+    match state.step_hit(&point) {
+        Ok(()) => {
+            kept.add_hit(point)?;
             Ok(())
         }
         Err(ItemFail::Memory) => Err(Fail::Memory),
@@ -195,7 +216,7 @@ impl Progress {
 
     /// Reads the hit at the start of the bytes, with the LF of its line.
     fn take_hit(&mut self, point: Coordinates, len: usize, bytes: &[u8]) -> Result<(), Fail>
-        requires leads { HasLeadingHit point len bytes.now }
+        requires leads { HasLeadingHit self.old.state.settings point len bytes.now }
         requires body { self.old.state.settings.part ≡ part.Body }
         requires drilling { self.old.reader.route ≡ route.Free false }
         requires empty { self.old.line.items ≡ [] }
@@ -204,10 +225,10 @@ impl Progress {
         ensures ok { OnOk result (Advances self.old self.new (take (len + 1) bytes.now)) }
         ensures err { IfErr result (Refuses self.old bytes.now) }
     {
-        keep(
+        keep_hit(
             self.lines + 1,
             self.start,
-            DrillCommand::Hit(point),
+            point,
             &mut self.state,
             &mut self.kept,
         )?;
@@ -241,7 +262,7 @@ impl Progress {
         ensures err { IfErr result (Refuses self.old bytes.now) }
     {
         if self.line.is_empty() && self.state.is_in_body() && self.reader.may_drill() {
-            if let Some((point, len)) = leading_hit(bytes) {
+            if let Some((point, len)) = leading_hit(&self.state.settings(), bytes) {
                 self.take_hit(point, len, bytes)?;
                 return Ok(len + 1);
             }

@@ -1,9 +1,11 @@
 //! The state of a drill file: it meets the commands one by one, and answers which rule a command breaks first.
 
 ghost use Rattle.std.specs.Prelude.{◌≡◌, nat_eq};
-ghost use Rattle.std.specs.Option.{option_and_then};
+ghost use Rattle.std.specs.Option.{option_and_then, option_map};
 ghost use Rattle.indexmap.specs.IndexMap.{get};
-ghost use Rattle.drill_text.specs.Rules.{same_unit, same_zeros, same_format};
+ghost use Rattle.drill_text.specs.Rules.{same_unit, same_zeros, same_format, width_with};
+ghost use Rattle.drill_text.specs.Holes.{unit_or};
+ghost use Rattle.drill_text.specs.Outcome.{diameter_of_tool};
 
 use crate::platings::{PlatingKind, PlatingWords, Tool, calls_plated};
 use drill_lines::{
@@ -24,29 +26,30 @@ pub(crate) struct DrillState {
     header_ended: bool,
     tools: IndexMap<u16, Tool>,
     tool: Option<u16>,
-    // Held beside `tools` and `tool`, so that no hole looks its tool up.
+    // These two are held beside the unit, `tools` and `tool`, so that no hole looks its tool up.
     picked: Option<Tool>,
+    width: Result<i64, Reason>,
     x: OptionalDec,
     y: OptionalDec,
     words: PlatingWords,
     holes: Vec<Hole>,
     plated: Vec<bool>,
     ghost picked_is: { picked ≡ option_and_then (λ number. get nat_eq tools number) tool },
+    ghost width_is: { width ≡ width_with (unit_or settings.unit) tool (option_map diameter_of_tool picked) },
 }
 
 impl DrillState {
     ghost use Rattle.std.specs.Prelude.{◌≡◌, ◌&&◌, [], ◌∷◌, ◌++◌, List, OnOk, IfOk, length, Some, None, Ok, is_some, true, false};
     ghost use Rattle.std.specs.Option.{option_or};
     ghost use Rattle.std.specs.List.{find};
-    ghost use Rattle.drill_lines.specs.declared.command.DrillCommand.{DrillCommand as TheCommand};
     ghost use Rattle.drill_lines.specs.declared.command.DrillCommand.TheVariants as command;
     ghost use Rattle.drill_lines.specs.declared.command.Part.TheVariants as part;
     ghost use Rattle.grid_units.specs.declared.fault.Reason.TheVariants as reason;
     ghost use Rattle.drill_text.specs.Plating.{plating_set};
-    ghost use Rattle.drill_text.specs.declared.platings.PlatingKind.{PlatingKind as TheKind};
-    ghost use Rattle.drill_text.specs.Rules.{first_broken, applies, rules, differs, same_unit, same_zeros, same_format, picks_unknown_tool, drills, has_no_tool};
-    ghost use Rattle.drill_text.specs.Holes.{unit_or};
-    ghost use Rattle.drill_text.specs.Inner.StateSteps.{state_of, AddsOrRefuses, IsStateAfter, Applies, AppliesOrRefuses, DrillsOrRefuses, MarksOrRefuses, own_broken, picked_plating, after_format, at_last_point, drill_path, length_in, point_in, width_of, IsWidth, no_point, hole_between, hole_in, round_hole};
+    ghost use Rattle.drill_text.specs.Rules.{first_broken, applies, rules, differs, same_unit, same_zeros, same_format, picks_unknown_tool, drills};
+    ghost use Rattle.drill_text.specs.Holes.{coordinate_in};
+    ghost use Rattle.grid_units.specs.Numbers.{within_limit};
+    ghost use Rattle.drill_text.specs.Inner.StateSteps.{state_of, AddsOrRefuses, IsStateAfter, Applies, JudgesNext, DrillsOrRefuses, MarksOrRefuses, own_broken, picked_plating, after_format, at_last_point, drill_path, IsWidth, point_in, no_point, hole_between, hole_in};
 
     /// The state before the first command, in a file whose platings are known so.
     pub(crate) fn new(alloc: Global, kind: PlatingKind) -> DrillState
@@ -64,6 +67,7 @@ impl DrillState {
             tools: IndexMap::new(alloc),
             tool: None,
             picked: None,
+            width: width_with(None, None, None),
             x: OptionalDec::new(None),
             y: OptionalDec::new(None),
             words: PlatingWords::new(kind),
@@ -102,19 +106,26 @@ impl DrillState {
 
     /// Checks one more command, and takes it in if it breaks no rule.
     pub(crate) fn step(&mut self, command: &DrillCommand) -> Result<(), ItemFail>
-        ensures { (kind : TheKind) (before : List TheCommand) → IsStateAfter self.old kind before → AppliesOrRefuses kind before command.now self.new result }
+        ensures { JudgesNext self.old command.now self.new result }
     {
         match command {
-            DrillCommand::Hit(point) => self.drill_hit(point),
+            DrillCommand::Hit(point) => self.step_hit(point),
             DrillCommand::Slot(first, second) => self.drill_slot(first, second),
             _ => self.apply_checked(command),
         }
     }
 
+    /// Checks a hit at a point, and takes it in if it breaks no rule.
+    pub(crate) fn step_hit(&mut self, point: &Coordinates) -> Result<(), ItemFail>
+        ensures { JudgesNext self.old (command.Hit point.now) self.new result }
+    {
+        self.drill_hit(point)
+    }
+
     /// Checks a command that drills nothing, and takes it in if it breaks no rule.
     fn apply_checked(&mut self, command: &DrillCommand) -> Result<(), ItemFail>
         requires { drills command.now ≡ false }
-        ensures { (kind : TheKind) (before : List TheCommand) → IsStateAfter self.old kind before → AppliesOrRefuses kind before command.now self.new result }
+        ensures { JudgesNext self.old command.now self.new result }
     {
         if let Some(reason) = self.broken_rule(command) {
             return Err(ItemFail::Refused(reason));
@@ -271,6 +282,7 @@ impl DrillState {
                 };
                 self.tools.insert(*number, tool)?;
                 self.picked = picked(&self.tools, self.tool);
+                self.width = width_with(self.settings.unit, self.tool, self.picked);
             }
             DrillCommand::HeaderEnd => {
                 self.settings.part = Part::Body;
@@ -280,6 +292,7 @@ impl DrillState {
             DrillCommand::Pick(number) => {
                 self.tool = Some(*number);
                 self.picked = picked(&self.tools, self.tool);
+                self.width = width_with(self.settings.unit, self.tool, self.picked);
             }
             DrillCommand::Finish => self.settings.part = Part::After,
             DrillCommand::Hit(_) | DrillCommand::Slot(_, _) => {}
@@ -305,6 +318,7 @@ impl DrillState {
         }
         if unit.is_some() {
             self.settings.unit = unit;
+            self.width = width_with(unit, self.tool, self.picked);
         }
         if zeros.is_some() {
             self.settings.zeros = zeros;
@@ -327,15 +341,8 @@ impl DrillState {
     fn hit_hole(&self, point: &Coordinates) -> Result<Hole, Reason>
         ensures { result ≡ hole_in (state_of self.now) (length self.now.holes.items) point.now no_point }
     {
-        self.round_hole(point.x.or(self.x), point.y.or(self.y))
-    }
-
-    /// The round hole at these coordinates, or the first rule that it breaks.
-    fn round_hole(&self, x: OptionalDec, y: OptionalDec) -> Result<Hole, Reason>
-        ensures { result ≡ round_hole (state_of self.now) (length self.now.holes.items) x y }
-    {
         let width = self.width()?;
-        let at = self.point(x, y)?;
+        let at = self.point(point.x.or(self.x), point.y.or(self.y))?;
         self.hole_between(width, at, at)
     }
 
@@ -405,16 +412,6 @@ impl DrillState {
         }
     }
 
-    /// The diameter of the picked tool, in the unit of the file.
-    fn diameter(&self) -> Option<Dec>
-        ensures { result ≡ option_and_then (state_of self.now).diameter self.now.tool }
-    {
-        match self.picked {
-            Some(tool) => Some(tool.diameter),
-            None => None,
-        }
-    }
-
     /// The hole between two points with a tool of this diameter in pm, unless there are too many.
     fn hole_between(&self, width: i64, from: Point, to: Point) -> Result<Hole, Reason>
         requires { IsWidth width }
@@ -448,7 +445,7 @@ impl DrillState {
 
     /// A length in pm, 0 where none was named, or `TooFar` above 10 m.
     fn length(&self, value: OptionalDec) -> Result<i64, Reason>
-        ensures { result ≡ length_in (unit_or self.now.settings.unit) value }
+        ensures { result ≡ within_limit (coordinate_in (unit_or self.now.settings.unit) value) }
     {
         match value.get() {
             Some(value) => value.picometres(self.unit()),
@@ -464,27 +461,12 @@ impl DrillState {
         Point::new(self.length(x)?, self.length(y)?).ok_or(Reason::TooFar)
     }
 
-    fn has_no_tool(&self) -> bool
-        ensures { result ≡ has_no_tool (state_of self.now) }
-    {
-        match self.tool {
-            Some(number) => number == 0,
-            None => true,
-        }
-    }
-
     /// The diameter of the picked tool in pm, or the first rule that it breaks.
     fn width(&self) -> Result<i64, Reason>
-        ensures exact { result ≡ width_of (state_of self.now) }
+        ensures exact { result ≡ width_with (unit_or self.now.settings.unit) self.now.tool (option_and_then (state_of self.now).diameter self.now.tool) }
         ensures range { IfOk result IsWidth }
     {
-        if self.has_no_tool() {
-            return Err(Reason::NoTool);
-        }
-        match self.diameter() {
-            Some(diameter) if diameter.units() > 0 => diameter.picometres(self.unit()),
-            _ => Err(Reason::BadSize),
-        }
+        self.width
     }
 }
 
@@ -495,6 +477,22 @@ fn picked(tools: &IndexMap<u16, Tool>, tool: Option<u16>) -> Option<Tool>
     match tool {
         Some(number) => tools.get(&number).copied(),
         None => None,
+    }
+}
+
+/// The diameter in pm of a tool that was picked, or the first rule that it breaks.
+#[tactic(auto, unfolding(crate::specs::Rules::width_with))]
+fn width_with(unit: Option<Unit>, tool: Option<u16>, picked: Option<Tool>) -> Result<i64, Reason>
+    ensures { result ≡ width_with (unit_or unit) tool (option_map diameter_of_tool picked) }
+{
+    if tool.unwrap_or(0) == 0 {
+        return Err(Reason::NoTool);
+    }
+    match picked {
+        Some(tool) if tool.diameter.units() > 0 => {
+            tool.diameter.picometres(unit.unwrap_or(Unit::Millimetre))
+        }
+        _ => Err(Reason::BadSize),
     }
 }
 

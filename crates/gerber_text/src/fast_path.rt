@@ -29,12 +29,13 @@ fn first_int(bytes: &[u8]) -> Option<(i64, &[u8])>
     ensures value { IfSome result (λ found. HasLeadingInt bytes.now found.0 found.1.now) }
     ensures kept { IfSome result (λ found. found.0 ≢ omitted_integer) }
 {
+    let negative = is_negative(bytes);
     let digits = without_sign(bytes);
     let (magnitude, len) = first_digits(digits);
     if len == 0 {
         return None;
     }
-    Some((signed(is_negative(bytes), magnitude), &digits[len..]))
+    Some((signed(negative, magnitude), &digits[len..]))
 }
 
 /// The coordinate at the start of these bytes, if its letter stands there, and the bytes after it.

@@ -89,7 +89,7 @@ impl Dec {
         ensures reads_back { parse_decimal result.bytes ≡ Ok self }
     {
         let mut text = signed_whole(self.units, 100_000_000);
-        push_decimals(&mut text, self.units.unsigned_abs() % 100_000_000);
+        push_decimals(&mut text, self.units.unsigned_abs() % 100_000_000, 8);
         text
     }
 

@@ -5,7 +5,8 @@ ghost use Rattle.std.specs.Fmt.{DisplaysOnOk};
 ghost use Rattle.grid_units.specs.Spellings.{fraction_text, millimetres, minus, places, without_end_zeros};
 ghost use Rattle.grid_units.specs.LengthWords.{short_millimetres};
 
-use crate::spelling::{digit_of, without_zeros, write_mm};
+use crate::spelling::{push_decimals, write_mm};
+use arrayvec::ArrayString;
 use std::fmt;
 use std::fmt::{Display, Formatter};
 
@@ -45,27 +46,13 @@ impl Display for Millimetres {
     }
 }
 
-/// Writes the last so many digits of a number.
-fn write_places<W: fmt::Write>(f: &mut Formatter<W>, number: u64, width: u8) -> fmt::Result
-    requires { width ≤ 9 }
-    ensures { DisplaysOnOk W.write_str_gives f.old result (Some (places width number)) f.new }
-{
-    for exponent in (0..width).rev() {
-        write!(f, "{}", digit_of(number, exponent))?;
-    }
-    Ok(())
-}
-
 /// Writes a point and the decimals of so many pm, less than a millimetre, without the zeros at their end; nothing where none is left.
 fn write_short_decimals<W: fmt::Write>(f: &mut Formatter<W>, below: u64) -> fmt::Result
     ensures { DisplaysOnOk W.write_str_gives f.old result (Some (fraction_text (without_end_zeros (places 9 below)))) f.new }
 {
-    let (number, width) = without_zeros(below, 9);
-    if width == 0 {
-        return Ok(());
-    }
-    f.write_str(".")?;
-    write_places(f, number, width)
+    let mut text = ArrayString::new();
+    push_decimals(&mut text, below, 9);
+    f.write_str(text.as_str())
 }
 
 /// A length in pm, printed in millimetres without the zeros at the end of its decimals, and without a point where none is left: `0.125`.

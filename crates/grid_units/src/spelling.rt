@@ -65,7 +65,7 @@ fn push_digit(text: &mut ArrayString<16>, digit: u8)
 }
 
 /// The digit of a number at 10^`exponent`.
-pub(crate) fn digit_of(number: u64, exponent: u8) -> u8
+fn digit_of(number: u64, exponent: u8) -> u8
     requires { exponent ≤ 12 }
     ensures value { result ≡ number / 10 ^ exponent % 10 }
     ensures digit { result < 10 }
@@ -85,7 +85,7 @@ fn push_places(text: &mut ArrayString<16>, number: u64, width: u8)
 }
 
 /// The number without the zeros at its end, and how many of its last `digits` digits are left.
-pub(crate) fn without_zeros(number: u64, digits: u8) -> (u64, u8)
+fn without_zeros(number: u64, digits: u8) -> (u64, u8)
     ensures places { places result.1 result.0 ≡ without_end_zeros (places digits number) }
     ensures width { result.1 ≤ digits }
 {
@@ -98,16 +98,17 @@ pub(crate) fn without_zeros(number: u64, digits: u8) -> (u64, u8)
     (rest, width)
 }
 
-/// Appends a point and the decimals of a number of 10^-8, without the zeros at their end; nothing where
-/// there are none.
-pub(crate) fn push_decimals(text: &mut ArrayString<16>, fraction: u64)
-    requires { array_string_len text.old ≤ 7 }
-    ensures { text.new.bytes ≡ text.old.bytes ++ fraction_text (without_end_zeros (places 8 fraction)) }
+/// Appends a point and the last `width` digits of a number, without the zeros at their end; nothing where there are
+/// none.
+pub(crate) fn push_decimals(text: &mut ArrayString<16>, part: u64, width: u8)
+    requires width { width ≤ 9 }
+    requires room { array_string_len text.old + width < 16 }
+    ensures { text.new.bytes ≡ text.old.bytes ++ fraction_text (without_end_zeros (places width part)) }
 {
-    let (number, width) = without_zeros(fraction, 8);
-    if width > 0 {
+    let (number, left) = without_zeros(part, width);
+    if left > 0 {
         push_ascii(text, b'.');
-        push_places(text, number, width);
+        push_places(text, number, left);
     }
 }
 

@@ -13,7 +13,10 @@ use Rattle.gerber_text.specs.declared.text_items.TextKind.TheVariants as kinds
 use Rattle.pad_shapes.specs.declared.drawn.Drawn.{Drawn}
 use Rattle.layer_state.proofs.DigitLemmas.{test_no, test_yes}
 use Rattle.layer_state.proofs.StateLemmas.{defined_numbered-more, state_after-more}
+use Rattle.layer_features.specs.Contours.{part_of}
 use Rattle.layer_features.specs.DrawnCopper.{dark_part, drawn_at, first_parts, uncleared_drawn}
+use Rattle.layer_state.specs.Flashes.{aperture_flashes, is_flash}
+use Rattle.layer_state.specs.Lookback.{GraphicsState, current_aperture}
 use Rattle.layer_state.specs.declared.tables.Defined.{Defined}
 use Rattle.layer_features.specs.declared.copper.Copper.{Copper}
 use Rattle.layer_features.specs.declared.drawing.Drawing.{Drawing}
@@ -332,6 +335,28 @@ operation_more now keep taken old added new own commands a x y i j idle dark fre
       state = λ next. operation_stays now next added new a x y i j now_dark now_fresh (regions_stay added.regions (ended_regions commands) regions) moved;
       kept = moved.kept;
       drawing = moved.drawing;
+    })
+
+-- outside of regions an operation adds no part
+closed_part : (s : PlotState) (a : Action) (x y i j : Option ℤ) → s.in_region ≡ false → None ≡ part_by s (command.Operate a x y i j)
+closed_part s a x y i j closed = λ k. if sym closed k then Some (part_of s a x y i j) else None
+
+-- what is no flash makes none
+pub no_flash : (s : GraphicsState) (a : Action) (x y i j : Option ℤ) → is_flash a ≡ false → [] ≡ added_flashes s (command.Operate a x y i j)
+no_flash s a x y i j quiet = λ k. if sym quiet k then option_map_or (aperture_flashes s x y) (current_aperture s) [] else []
+
+-- so one that makes no flash either changes nothing
+pub operation_passed : (keep : Keep) (taken : List WidePad) (old : Copper) (commands : List Command) (a : Action) (x y i j : Option ℤ) → old.drawing.asked ≡ false → old.clearing.clear ≡ false → old.clearing.in_block ≡ false → (current_of (state_after commands)).in_region ≡ false → is_flash a ≡ false
+    → HasMet keep taken old commands → HasMet keep taken old (commands ++ command.Operate a x y i j ∷ [])
+operation_passed keep taken old commands a x y i j idle dark fresh closed quiet met =
+    operation_more (selection_after commands) keep taken old old old [] commands a x y i j idle dark fresh met refl (as_itself commands (command.Operate a x y i j) [] (no_flash (state_after commands) a x y i j quiet)) (record { kept = λ gone features h. subst (KeepsFeatures old.kept gone) (sym (append-nil features)) h; rows = refl; state = refl; drawing = refl })
+    (record {
+      plotter = refl;
+      parts = subst (λ (o : Option Part). MakeSameContour old.parts.items (old.parts.items ++ cons_option o [])) (closed_part (plot_state (draw_state (selection_after commands) old.plotter)) a x y i j closed) (none_added old.parts.items);
+      regions = refl;
+      clearing = refl;
+      kept = refl;
+      drawing = refl;
     })
 
 -- ---- a comment, an attribute or an interpolation

@@ -10,7 +10,7 @@ ghost use Rattle.gerber_text.specs.FastPath.{text_command};
 ghost use Rattle.gerber_text.specs.declared.text_items.TextKind.{TextKind as TheKind};
 ghost use Rattle.layer_state.specs.declared.flash.What.TheVariants as what;
 ghost use Rattle.pad_shapes.specs.declared.row.Why.TheVariants as reason;
-ghost use Rattle.layer_state.specs.Flashes.{added_flashes};
+ghost use Rattle.layer_state.specs.Flashes.{added_flashes, is_flash};
 ghost use Rattle.layer_state.specs.Lookback.{current_of, state_after};
 ghost use Rattle.layer_features.specs.Blocks.{copy_count, is_repeated};
 ghost use Rattle.layer_features.specs.DrawnCopper.{dark_part};
@@ -33,7 +33,7 @@ use crate::keep::Keep;
 use crate::kept_features::{KeptFeatures, first_taken_away};
 use crate::part::{Part, add_operation, add_parts};
 use crate::plotter::{Pencil, Plotter, Setting};
-use gerber_text::{Command, Interpolation, LeadingOperation, StepRepeat};
+use gerber_text::{Action, Command, Interpolation, LeadingOperation, StepRepeat};
 use grid_units::Point;
 use layer_state::{Current, Flash, ONE, What, oriented, quarter_turns};
 use pad_shapes::{Drawn, PlacedRounded, SharedRounded, Why, WidePad};
@@ -148,6 +148,22 @@ impl Copper {
         self.take(setting, &Command::Operate { action, x, y, i, j }, flashes)
     }
 
+    /// Whether an operation changes nothing here: it moves or plots outside of regions, where nothing is to be drawn or taken away. So do
+    /// most that make no flash.
+    #[inline(always)]
+    pub fn passes(&self, state: &Current, operation: &LeadingOperation) -> bool
+        ensures flash { result ≡ true → is_flash operation.now.action ≡ false }
+        ensures met { result ≡ true → (keep : TheKeep) (taken : List ThePad) (commands : List TheCommand) → HasMet keep taken self.now commands → state.now ≡ current_of (state_after commands) → HasMet keep taken self.now ((commands ++ modes_of operation.now.mode) ++ command_of operation.now ∷ []) }
+    {
+        if state.in_region || is_flash(operation.action) {
+            return false;
+        }
+        match operation.mode {
+            None => self.is_plain(),
+            Some(_) => false,
+        }
+    }
+
     /// Whether nothing is to be drawn, polarity is dark, and nothing of the open block was drawn in clear polarity. So it is with most
     /// operations.
     fn is_plain(&self) -> bool
@@ -223,7 +239,7 @@ impl Copper {
     }
 
     /// Adds the flashes of a command, which most commands have not.
-    #[inline]
+    #[inline(always)]
     fn add_flashes(&mut self, setting: &Setting, flashes: &[Flash]) -> Result<(), AllocError>
         ensures kept { AddsFeatures result self.old.kept self.new.kept (map (flash_feature (copper_at setting.now self.old)) flashes.now) }
         ensures rows { self.new.kept.rows ≡ self.old.kept.rows }
@@ -514,4 +530,11 @@ fn add_flashes(
         kept.add(flash_feature(is_clear, shape, why, flash)?)?;
     }
     Ok(())
+}
+
+/// Whether an operation flashes.
+fn is_flash(action: Action) -> bool
+    ensures { result ≡ is_flash action }
+{
+    matches!(action, Action::Flash)
 }

@@ -24,7 +24,7 @@ pub use Rattle.layer_features.specs.CopperHolding.{HasMet, IsCopperOf}
 pub use Rattle.layer_features.specs.Features.{contour_count, contour_feature, contour_pad, counts_of, dark_kind, features_at, features_of, flash_feature, flashed_count, is_contour, is_flashed_pad, is_other, macro_pad, other_count, pad_in, strict_feature, strict_feature_of, strict_kind, strict_kind_of, strict_view, wide_features_of}
 pub use Rattle.layer_features.specs.Kept.{keeps_commands, keeps_drawn, keeps_pads_alone, keeps_rows, left_pads}
 pub use Rattle.layer_features.specs.declared.keep.Keep.{Keep}
-pub use Rattle.layer_image.specs.Holding.{HasContent, HasMetLegal, HasScannedFor, LayerStands, ShowsLayerFaultIn, has_forgotten, standing_in}
+pub use Rattle.layer_image.specs.Holding.{HasContent, HasMetLegal, HasMetText, HasScannedFor, LayerStands, ShowsLayerFaultIn, has_forgotten, standing_in}
 pub use Rattle.layer_image.specs.Kept.{IsKeptOf, KeptLayer, ReadsKeptIn, counting_profile, flashes_kept, image_in, plain}
 pub use Rattle.layer_image.specs.Layers.{EachTextAnswersIn, LayerImage, LayerReasonsIn, ReadsLayer, ReadsLayerIn, StrictLayers, image_of}
 pub use Rattle.layer_image.specs.PadLaws.{FlashesAreCopies, LayerPads, LegalPads, PadsAreFlashed, PadsAreUnique}

@@ -8,11 +8,6 @@ pub flashes_on : {E : Type 0} (profile : Profile) (of : Keep) (taken : List Wide
 flashes_on profile of taken old new before after (Ok x) h on = record { kept = h.kept; is = h.is; plain_taken = h.plain_taken; same = h.same; scanned = on (without_pads h.kept h.plain_taken) h.scanned }
 flashes_on profile of taken old new before after (Err e) h on = tt
 
--- a fact that stays, and what goes on
-pub and_on : {P E : Type 0} (Q : Type 0) (r : Result (Unit {0}) E) → P → OnOk r Q → OnOk r (P × Q)
-and_on Q (Ok x) p q = (p, q)
-and_on Q (Err e) p q = tt
-
 -- the pads that are held are taken out too
 pub flashes_taken : (profile : Profile) (of : Keep) (taken : List WidePad) (old new : Scan) (before : Entries) → HasScannedFor profile of taken old before → ((parts : KeptParts) → HasScannedLegal old parts before → HasScannedLegal new (taking_pads parts old.state.state.flashes) before)
     → HasScannedFor profile of (taken ++ (map plain (scanned_pads old) ++ [])) new before

@@ -1,11 +1,14 @@
 -- The flashes of one command more, and the commands of an operation that was passed.
-use Rattle.layer_image.proofs.Common.{◌≡◌, ◌∙◌, ℕ, List, [], ◌∷◌, ◌++◌, drop, length, Option, None, Some, sym, ap, subst, append-nil, append_assoc, map-append, Command, text_command, Placed, Entries, item_entries, without_places, Flash, added_flashes, flashes_of, HasScannedLegal, scanned_flashes, without_flashes, state_after}
-use Rattle.gerber_commands.specs.declared.command.Command.TheVariants.{Mode}
+use Rattle.layer_image.proofs.Common.{◌≡◌, ◌∙◌, ℕ, ℤ, false, Result, Ok, Err, OnOk, List, [], ◌∷◌, ◌++◌, drop, length, Option, None, Some, sym, ap, subst, append-nil, append_assoc, map-append, Command, text_command, Placed, Entries, item_entries, without_places, Flash, added_flashes, flashes_of, HasScannedLegal, scanned_flashes, without_flashes, state_after}
+use Rattle.gerber_commands.specs.declared.command.Action.{Action}
+use Rattle.gerber_commands.specs.declared.command.Command.TheVariants.{Mode, Operate}
 use Rattle.gerber_commands.specs.declared.command.Interpolation.{Interpolation}
 use Rattle.gerber_commands.specs.Rows.{modes_of}
 use Rattle.gerber_text.specs.declared.text_items.TextKind.{TextKind}
 use Rattle.gerber_text.specs.declared.text_items.TextKind.TheVariants as kinds
 use Rattle.gerber_text.proofs.SpelledIsWritten.{bare}
+use Rattle.layer_features.proofs.CopperLemmas.{no_flash}
+use Rattle.layer_state.specs.Flashes.{is_flash}
 use Rattle.layer_state.specs.declared.scan.Scan.{Scan}
 use Rattle.layer_state.proofs.OwnFlashes.{drop_first, flashes_of-more}
 
@@ -13,6 +16,12 @@ use Rattle.layer_state.proofs.OwnFlashes.{drop_first, flashes_of-more}
 pub flashes_with_mode : (before : List Command) (mode : Option Interpolation) → flashes_of (before ++ modes_of mode) ≡ flashes_of before
 flashes_with_mode before None = ap flashes_of (append-nil before)
 flashes_with_mode before (Some mode) = flashes_of-more before (Mode mode) ∙ append-nil (flashes_of before)
+
+-- nor does an operation that is none
+pub flashes_with_operation : (before : List Command) (mode : Option Interpolation) (a : Action) (x y i j : Option ℤ) → is_flash a ≡ false → flashes_of ((before ++ modes_of mode) ++ Operate a x y i j ∷ []) ≡ flashes_of before
+flashes_with_operation before mode a x y i j quiet =
+    let all = before ++ modes_of mode in
+    flashes_of-more all (Operate a x y i j) ∙ ap (λ (l : List Flash). flashes_of all ++ l) (sym (no_flash (state_after all) a x y i j quiet)) ∙ append-nil (flashes_of all) ∙ flashes_with_mode before mode
 
 -- a comment or an attribute makes no flash
 flashes_with_text : (before : List Command) (kind : TextKind) (text : List ℕ) → flashes_of (before ++ text_command kind text ∷ []) ≡ flashes_of before
@@ -57,3 +66,8 @@ pub text_dropped : (scan : Scan) (before : Entries) (place byte : ℕ) (kind : T
     → HasScannedLegal scan (without_flashes (flashes_of (without_places (before ++ item_entries place byte (text_command kind text ∷ []))))) (before ++ item_entries place byte (text_command kind text ∷ []))
 text_dropped scan before place byte kind text h =
     subst (λ (l : List Flash). HasScannedLegal scan (without_flashes l) (before ++ item_entries place byte (text_command kind text ∷ []))) (sym (ap flashes_of (after_text before place byte (text_command kind text)) ∙ flashes_with_text (without_places before) kind text)) h
+
+-- what follows where a call goes on
+pub and_then : {P Q E : Type 0} (r : Result (Unit {0}) E) → OnOk r P → (P → Q) → OnOk r Q
+and_then (Ok x) h f = f h
+and_then (Err e) h f = tt

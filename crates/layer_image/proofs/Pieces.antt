@@ -1,5 +1,5 @@
 -- What a reader of a layer in pieces shows of the text so far.
-use Rattle.layer_image.proofs.Common.{◌≡◌, inl, inr, ℕ, List, [], ◌++◌, length, take, drop, append-nil, append_assoc, Bool, true, false, cond, Result, Ok, Err, OnOk, IfOk, IfErr, refl, sym, ap, subst, ◌∙◌, nat_lt, arith, take-length, if◌then◌else◌, take-append-drop, AnswersAlways, Answers, IfFault, Fault, bind_ok, Profile, WordReader, OffsetByte, Entries, commands_by, shown_by, ShowsIn, ReadsIn, SpellsPrefixIn, SpellsBeforeFaultIn, entries_after, StandsIn, FailedIn, FailsWithIn, held_entries, shown_spelled, WidePad, Keep, IsFirstFault, LayerImage, ReadsLayer, ReadsLayerIn, IsKeptOf, KeptLayer, ReadsKeptIn, image_in, LayerContent, counts_of, features_of, flashes_of, pads_of, Strict, IsLegal, HasContent, ShowsLayerFaultIn, text_limit, without_places, broken_rule, LayerStands}
+use Rattle.layer_image.proofs.Common.{◌≡◌, inl, inr, ℕ, List, [], ◌++◌, length, take, drop, append-nil, append_assoc, Bool, true, false, cond, Result, Ok, Err, OnOk, IfOk, IfErr, refl, sym, ap, subst, ◌∙◌, nat_lt, arith, take-length, if◌then◌else◌, take-append-drop, AnswersAlways, Answers, IfFault, Fault, bind_ok, Profile, WordReader, OffsetByte, Entries, commands_by, shown_by, ShowsIn, ReadsIn, SpellsPrefixIn, SpellsBeforeFaultIn, entries_after, StandsIn, FailedIn, FailsWithIn, held_entries, shown_spelled, WidePad, Keep, IsFirstFault, LayerImage, ReadsLayer, ReadsLayerIn, IsKeptOf, KeptLayer, ReadsKeptIn, image_in, LayerContent, counts_of, features_of, flashes_of, pads_of, Strict, IsLegal, HasContent, ShowsLayerFaultIn, text_limit, without_places, broken_rule, HasMetText, LayerStands, keeps_commands}
 use Rattle.grid_units.specs.declared.fault.Fail.{Fail}
 use Rattle.grid_units.specs.declared.fault.Fail.TheVariants as fails
 use Rattle.gerber_text.proofs.FinishLemmas.{holds_shows, shows_reads}
@@ -129,8 +129,25 @@ pub legal_content : (profile : Profile) (keep : Keep) (taken : List WidePad) (he
 legal_content profile keep taken (content.Flashes scan) entries h = h.scanned.legal
 legal_content profile keep taken (content.Features met) entries h = h.1.scanned.legal
 
--- a reader stands as it did where its words are the same
-pub with_same_words : (reader : LayerReader) (words : WordReader) (profile : Profile) (keep : Keep) (taken : List WidePad) (text : List ℕ) → words ≡ reader.words → LayerStands reader profile keep taken text
-    → LayerStands (record { alloc = reader.alloc; words = words; content = reader.content; profile = reader.profile; keep = reader.keep; kept = reader.kept; failed = reader.failed }) profile keep taken text
-with_same_words reader words profile keep taken text same h =
-    subst (λ (w : WordReader). LayerStands (record { alloc = reader.alloc; words = w; content = reader.content; profile = reader.profile; keep = reader.keep; kept = reader.kept; failed = reader.failed }) profile keep taken text) (sym same) h
+-- where the words are the same, what was met of them is
+pub same_words_met : {C : Type 0} {has_met : C → Entries → Type 0} {old new : WordReader} {content : C} {profile : Profile} {text : List ℕ} → new ≡ old → HasMetText has_met old content profile text → HasMetText has_met new content profile text
+same_words_met {has_met} {old} {new} {content} {profile} {text} same h = subst (λ (w : WordReader). HasMetText has_met w content profile text) (sym same) h
+
+-- the words and the content of a reader
+pub parts_of : {C : Type 0} (of : C → LayerContent) (reader : LayerReader) (content : C) (profile : Profile) (keep : Keep) (taken : List WidePad) (text : List ℕ) → reader.content ≡ of content → LayerStands reader profile keep taken text → HasMetText (λ c. HasContent profile keep taken (of c)) reader.words content profile text
+parts_of of reader content profile keep taken text is h = record { gone = h.gone; words = h.words; none = h.none; met = subst (λ (l : LayerContent). HasContent profile keep taken l h.gone) is h.content }
+
+-- a reader that drops commands, where its words and its content have met more
+pub parts_met : {C E : Type 0} (of : C → LayerContent) (reader : LayerReader) (words : WordReader) (content : C) (profile : Profile) (keep : Keep) (taken : List WidePad) (text more : List ℕ) (r : Result (Unit {0}) E) → keeps_commands reader.keep ≡ false → LayerStands reader profile keep taken text
+    → OnOk r (HasMetText (λ c. HasContent profile keep taken (of c)) words content profile more) → OnOk r (LayerStands (record { alloc = reader.alloc; words = words; content = of content; profile = reader.profile; keep = reader.keep; kept = reader.kept; failed = reader.failed }) profile keep taken more)
+parts_met of reader words content profile keep taken text more (Ok x) dropped h now = record {
+  sound = h.sound;
+  same = h.same;
+  same_profile = h.same_profile;
+  gone = now.gone;
+  words = now.words;
+  none = now.none;
+  content = now.met;
+  kept = h.kept ∙ none_kept (keeps_commands keep) h.gone now.gone (ap keeps_commands (sym h.same) ∙ dropped);
+}
+parts_met of reader words content profile keep taken text more (Err e) dropped h now = tt

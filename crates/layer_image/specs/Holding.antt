@@ -10,10 +10,11 @@ use Rattle.pad_shapes.specs.declared.wide_pad.WidePad.{WidePad}
 use Rattle.gerber_text.specs.Reading.{Entries, ShowsIn, SpellsPrefixIn, SpellsBeforeFaultIn}
 use Rattle.gerber_text.specs.Holding.{StandsIn, held_entries}
 use Rattle.gerber_text.specs.Writing.{without_places}
+use Rattle.gerber_text.specs.declared.reader.WordReader.{WordReader}
 use Rattle.layer_features.specs.CopperHolding.{HasMet, copper_pads, forgets_pads}
 use Rattle.layer_state.specs.Faults.{IsFirstFault}
 use Rattle.layer_state.specs.Flashes.{flashes_of}
-use Rattle.layer_state.specs.Holding.{HasScannedLegal, is_scanning_region, scanned_pads}
+use Rattle.layer_state.specs.Holding.{HasScannedLegal, scanned_pads}
 use Rattle.layer_features.specs.Kept.{keeps_commands}
 use Rattle.layer_state.specs.KeptFlashes.{without_flashes, without_pads}
 use Rattle.layer_state.specs.Rules.{broken_rule}
@@ -26,8 +27,7 @@ use Rattle.layer_image.specs.declared.content.LayerContent.TheVariants as conten
 use Rattle.layer_image.specs.declared.met.Met.{Met}
 use Rattle.layer_image.specs.declared.reader.LayerReader.{LayerReader}
 
--- A text shows this fault of a layer in a profile, whatever follows it. Some first items spell commands, and this is their first fault
--- by the rules; or the text itself shows the fault, and the commands before it are legal.
+-- In a profile a text shows this fault of a layer, whatever follows: the first by the rules in what some first items spell, or its own after legal commands.
 abbrev pub ShowsLayerFaultIn : Profile → List ℕ → Fault → Type 0
 ShowsLayerFaultIn profile text f =
     ((kept : ℕ) × (entries : Entries) × SpellsPrefixIn profile text kept entries × IsFirstFault entries f)
@@ -52,11 +52,6 @@ pub record HasScannedFor (profile : Profile) (keep : Keep) (taken : List WidePad
 abbrev pub HasContent : Profile → Keep → List WidePad → LayerContent → Entries → Type 0
 HasContent profile keep taken (content.Flashes scan) entries = HasScannedFor profile keep taken scan entries
 HasContent profile keep taken (content.Features met) entries = (flashes_kept profile keep ≡ None) × HasMetLegal keep taken met entries
-
--- a region is open
-abbrev pub is_in_region : LayerContent → Bool
-is_in_region (content.Flashes scan) = is_scanning_region scan
-is_in_region (content.Features met) = is_scanning_region met.scan
 
 -- the pads of standard apertures that are held in the strict profile
 abbrev pub plain_in : LayerContent → List Pad
@@ -94,6 +89,13 @@ pub record LayerStands (reader : LayerReader) (profile : Profile) (keep : Keep) 
   pub none : held_entries reader.words ≡ []
   pub content : HasContent profile keep taken reader.content gone
   pub kept : reader.kept.items ≡ (if keeps_commands keep then gone else [])
+
+-- the parts of a reader that drops commands: a word reader has read this text, which shows no fault, and what takes in commands has met them all
+pub record HasMetText {C : Type 0} (has_met : C → Entries → Type 0) (reader : WordReader) (content : C) (profile : Profile) (text : List ℕ) : Type 0 where
+  pub gone : Entries
+  pub words : StandsIn reader profile gone text
+  pub none : held_entries reader ≡ []
+  pub met : has_met content gone
 
 -- the pads of standard apertures that a reader of the strict profile holds, without those that were taken from it
 abbrev pub held_plain : LayerReader → List Pad

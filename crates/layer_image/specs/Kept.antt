@@ -40,8 +40,7 @@ pub record KeptLayer : Type 0 where
   pub counts : FeatureCounts
   pub file_function : Option (List ℕ)
 
--- what is kept of the flashes of the strict profile, where nothing else is needed of the flashes and contours: of a whole layer, and of the pads of a
--- check in the strict profile
+-- what is kept of the flashes of the strict profile, where flashes and contours are not needed: of a whole layer, and of pads in the strict profile
 abbrev pub flashes_kept : Profile → Keep → Option FlashKeep
 flashes_kept profile keep.Layer = Some flash_keep.All
 flashes_kept Strict keep.Pads = Some flash_keep.Pads
@@ -51,8 +50,7 @@ flashes_kept _ _ = None
 abbrev pub counting_profile : Profile → Keep → Profile
 counting_profile profile keep = if keeps_commands keep then Strict else profile
 
--- What is kept of the layer of these commands, whose pads so far were taken out but for these that are left of them: the lists that are asked for,
--- the others empty.
+-- What is kept of the layer of these commands, whose pads so far were taken out but for these: the lists that are asked for, the others empty.
 pub record IsKeptOf (profile : Profile) (keep : Keep) (left : List WidePad) (entries : Entries) (kept : KeptLayer) : Type 0 where
   pub commands : kept.commands ≡ (if keeps_commands keep then entries else [])
   pub flashes : kept.flashes ≡ (if keeps_commands keep then flashes_of (without_places entries) else [])

@@ -1,13 +1,11 @@
 //! What the commands so far make of a layer: they are judged, and what is asked for is kept.
 
-ghost use Rattle.std.specs.Prelude.{◌≡◌, ◌++◌, [], ◌∷◌, ℕ, List, IfErr, IfOk, OnOk, None, false, if◌then◌else◌};
+ghost use Rattle.std.specs.Prelude.{◌≡◌, ◌++◌, [], List, IfErr, IfOk, OnOk, None, false, if◌then◌else◌};
 ghost use Rattle.grid_units.specs.Results.{IfFault};
 ghost use Rattle.grid_units.specs.declared.profile.Profile.{Profile as TheProfile};
 ghost use Rattle.grid_units.specs.declared.profile.Profile.TheVariants.{Strict, Wide};
 ghost use Rattle.gerber_commands.specs.declared.command.Command.{Command as TheCommand};
-ghost use Rattle.gerber_text.specs.FastPath.{text_command};
-ghost use Rattle.gerber_text.specs.Reading.{Entries, item_entries};
-ghost use Rattle.gerber_text.specs.Holding.{passed_entries};
+ghost use Rattle.gerber_text.specs.Reading.{Entries};
 ghost use Rattle.pad_shapes.specs.declared.wide_pad.WidePad.{WidePad as ThePad};
 ghost use Rattle.layer_state.specs.Faults.{IsFirstFault};
 ghost use Rattle.layer_features.specs.Features.{counts_of, features_of};
@@ -18,9 +16,10 @@ ghost use Rattle.layer_features.specs.declared.keep.Keep.{Keep as TheKeep};
 ghost use Rattle.layer_image.specs.Holding.{HasMetLegal, HasScannedFor};
 ghost use Rattle.layer_image.specs.Kept.{IsKeptOf, flashes_kept};
 
+use crate::command_sink::CommandSink;
 use crate::layer::Layer;
 use crate::met::Met;
-use gerber_text::{Command, PassedOperation, Placed, TextKind};
+use gerber_text::{Command, Placed};
 use grid_units::{Fail, Profile};
 use layer_features::{Copper, FeatureCounts, Keep};
 use layer_state::{FlashKeep, Scan, Scanned};
@@ -48,7 +47,7 @@ fn flashes_kept(profile: Profile, keep: Keep) -> Option<FlashKeep>
 }
 
 impl LayerContent {
-    ghost use Rattle.layer_image.specs.Holding.{HasContent, forgets_in, is_in_region, left_in, plain_in, standing_in, wide_in};
+    ghost use Rattle.layer_image.specs.Holding.{HasContent, forgets_in, left_in, plain_in, standing_in, wide_in};
 
     /// No command was met. What is kept in this profile is held.
     pub(crate) fn new(alloc: Global, keep: Keep, profile: Profile) -> LayerContent
@@ -57,7 +56,6 @@ impl LayerContent {
         match flashes_kept(profile, keep) {
             Some(kept) => LayerContent::Flashes(Scan::new(alloc, kept)),
             None => LayerContent::Features(Met {
-                alloc,
                 scan: Scan::new(alloc, FlashKeep::Flashes),
                 copper: Copper::new(alloc, keep),
             }),
@@ -78,57 +76,8 @@ impl LayerContent {
         ensures refused { (profile : TheProfile) (keep : TheKeep) (taken : List ThePad) (before : Entries) → HasContent profile keep taken self.old before → IfErr result (IfFault (IsFirstFault (before ++ entries.now))) }
     {
         match self {
-            LayerContent::Flashes(scan) => scan.scan(alloc, entries),
-            LayerContent::Features(met) => met.take_all(entries),
-        }
-    }
-
-    /// Checks an operation that a reader has passed, and takes it in.
-    ///
-    /// # Errors
-    ///
-    /// The fault of an operation that breaks a rule; `Memory` where an allocation failed.
-    pub(crate) fn operate(&mut self, passed: &PassedOperation) -> Result<(), Fail>
-        ensures ok { (profile : TheProfile) (keep : TheKeep) (taken : List ThePad) (before : Entries) → HasContent profile keep taken self.old before → OnOk result (HasContent profile keep taken self.new (before ++ passed_entries passed.now)) }
-        ensures refused { (profile : TheProfile) (keep : TheKeep) (taken : List ThePad) (before : Entries) → HasContent profile keep taken self.old before → IfErr result (IfFault (IsFirstFault (before ++ passed_entries passed.now))) }
-    {
-        match self {
-            LayerContent::Flashes(scan) => scan.operate(passed),
-            // The result of a call that is not in line is taken apart, and made anew: else what the other arm gives would lie in memory too.
-            LayerContent::Features(met) => {
-                met.operate(*passed)?;
-                Ok(())
-            }
-        }
-    }
-
-    /// Whether a region is open.
-    pub(crate) fn in_region(&self) -> bool
-        ensures { result ≡ is_in_region self.now }
-    {
-        match self {
-            LayerContent::Flashes(scan) => scan.in_region(),
-            LayerContent::Features(met) => met.scan.in_region(),
-        }
-    }
-
-    /// Takes in a comment or an attribute of this text that a reader has passed, outside of regions.
-    ///
-    /// # Errors
-    ///
-    /// An `AllocError` where there is no memory for a file function.
-    pub(crate) fn text(
-        &mut self,
-        alloc: Global,
-        kind: TextKind,
-        text: &[u8],
-    ) -> Result<(), AllocError>
-        requires { is_in_region self.old ≡ false }
-        ensures { (profile : TheProfile) (keep : TheKeep) (taken : List ThePad) (before : Entries) (place byte : ℕ) → HasContent profile keep taken self.old before → OnOk result (HasContent profile keep taken self.new (before ++ item_entries place byte (text_command kind text.now ∷ []))) }
-    {
-        match self {
-            LayerContent::Flashes(scan) => scan.text(alloc, kind, text),
-            LayerContent::Features(met) => met.text(kind, text),
+            LayerContent::Flashes(scan) => scan.take_commands(alloc, entries),
+            LayerContent::Features(met) => met.take_commands(alloc, entries),
         }
     }
 
@@ -244,7 +193,7 @@ fn layer_of_features(
 ) -> Result<Layer, AllocError>
     ensures { (keep : TheKeep) (taken : List ThePad) (entries : Entries) → flashes_kept profile keep ≡ None → HasMetLegal keep taken met entries → commands.items ≡ (if keeps_commands keep then entries else []) → IfOk result (IsKeptOf profile keep (left_pads met.copper.kept taken) entries) }
 {
-    let Met { scan, copper, .. } = met;
+    let Met { scan, copper } = met;
     let parts = copper.finish()?;
     let scanned = scan.finish();
     let counts = counts_in(profile, strict_counts(&scanned), parts.counts);

@@ -1,6 +1,7 @@
 //! Layers: what a text of legal commands says in a profile, read in pieces.
 #![tactic(auto)]
 
+mod command_sink;
 mod content;
 mod laws;
 mod layer;

@@ -1,15 +1,16 @@
 //! The commands so far, judged and dropped, and their flashes and contours.
 
-ghost use Rattle.std.specs.Prelude.{◌≡◌, ◌++◌, [], ◌∷◌, ℕ, List, IfErr, OnOk, false};
+ghost use Rattle.std.specs.Prelude.{◌≡◌, ◌++◌, [], ◌∷◌, List, IfErr, OnOk, None};
 ghost use Rattle.grid_units.specs.Results.{IfFault};
-ghost use Rattle.gerber_text.specs.FastPath.{text_command};
-ghost use Rattle.gerber_text.specs.Reading.{Entries, item_entries};
+ghost use Rattle.gerber_text.specs.Reading.{Entries};
 ghost use Rattle.gerber_text.specs.Holding.{passed_entries};
 ghost use Rattle.pad_shapes.specs.declared.wide_pad.WidePad.{WidePad as ThePad};
 ghost use Rattle.layer_state.specs.Faults.{IsFirstFault};
 ghost use Rattle.layer_state.specs.Holding.{is_scanning_region};
 ghost use Rattle.layer_features.specs.declared.keep.Keep.{Keep as TheKeep};
+ghost use Rattle.layer_image.specs.Kept.{flashes_kept};
 
+use crate::command_sink::CommandSink;
 use gerber_text::{Command, PassedOperation, Placed, TextKind};
 use grid_units::Fail;
 use layer_features::{Copper, Setting};
@@ -19,7 +20,6 @@ use std::alloc::{AllocError, Global};
 /// A judge of the commands so far, and their copper.
 #[derive(Drop)]
 pub(crate) struct Met {
-    pub(crate) alloc: Global,
     pub(crate) scan: Scan,
     pub(crate) copper: Copper,
 }
@@ -28,12 +28,12 @@ impl Met {
     ghost use Rattle.layer_image.specs.Holding.{HasMetLegal};
 
     /// Checks one more command and takes it in.
-    fn take(&mut self, entry: &Placed<Command>) -> Result<(), Fail>
+    fn take_command(&mut self, alloc: Global, entry: &Placed<Command>) -> Result<(), Fail>
         ensures ok { (keep : TheKeep) (taken : List ThePad) (before : Entries) → HasMetLegal keep taken self.old before → OnOk result (HasMetLegal keep taken self.new (before ++ entry.now ∷ [])) }
         ensures refused { (keep : TheKeep) (taken : List ThePad) (before : Entries) → HasMetLegal keep taken self.old before → IfErr result (IfFault (IsFirstFault (before ++ entry.now ∷ []))) }
     {
         let before = *self.scan.current();
-        self.scan.take(self.alloc, entry)?;
+        self.scan.take(alloc, entry)?;
         let setting = Setting {
             current: &before,
             apertures: self.scan.apertures(),
@@ -44,34 +44,15 @@ impl Met {
         Ok(())
     }
 
-    /// Checks commands in order and takes them in.
-    ///
-    /// # Errors
-    ///
-    /// The fault of the first command that breaks a rule; `Memory` where an allocation failed.
-    pub(crate) fn take_all(&mut self, entries: &[Placed<Command>]) -> Result<(), Fail>
-        ensures ok { (keep : TheKeep) (taken : List ThePad) (before : Entries) → HasMetLegal keep taken self.old before → OnOk result (HasMetLegal keep taken self.new (before ++ entries.now)) }
-        ensures refused { (keep : TheKeep) (taken : List ThePad) (before : Entries) → HasMetLegal keep taken self.old before → IfErr result (IfFault (IsFirstFault (before ++ entries.now))) }
-    {
-        for entry in entries {
-            self.take(entry)?;
-        }
-        Ok(())
-    }
-
     /// Checks an operation that a reader has passed, and takes it in.
-    ///
-    /// # Errors
-    ///
-    /// The fault of an operation that breaks a rule; `Memory` where an allocation failed.
-    // In line, it would slow the reader of pads of the strict profile, which does not come here.
-    #[inline(never)]
-    pub(crate) fn operate(&mut self, passed: PassedOperation) -> Result<(), Fail>
-        ensures ok { (keep : TheKeep) (taken : List ThePad) (before : Entries) → HasMetLegal keep taken self.old before → OnOk result (HasMetLegal keep taken self.new (before ++ passed_entries passed)) }
-        ensures refused { (keep : TheKeep) (taken : List ThePad) (before : Entries) → HasMetLegal keep taken self.old before → IfErr result (IfFault (IsFirstFault (before ++ passed_entries passed))) }
+    // Apart from those that pass by the copper, which need not make room for what was said before.
+    #[inline(always)]
+    fn add_operation(&mut self, passed: &PassedOperation) -> Result<(), Fail>
+        ensures ok { (keep : TheKeep) (taken : List ThePad) (before : Entries) → HasMetLegal keep taken self.old before → OnOk result (HasMetLegal keep taken self.new (before ++ passed_entries passed.now)) }
+        ensures refused { (keep : TheKeep) (taken : List ThePad) (before : Entries) → HasMetLegal keep taken self.old before → IfErr result (IfFault (IsFirstFault (before ++ passed_entries passed.now))) }
     {
         let before = *self.scan.current();
-        self.scan.operate(&passed)?;
+        self.scan.operate(passed)?;
         let setting = Setting {
             current: &before,
             apertures: self.scan.apertures(),
@@ -81,14 +62,40 @@ impl Met {
         self.scan.clear_flashes();
         Ok(())
     }
+}
 
-    /// Takes in a comment or an attribute of this text that a reader has passed, outside of regions.
-    pub(crate) fn text(&mut self, kind: TextKind, text: &[u8]) -> Result<(), AllocError>
-        requires { is_scanning_region self.old.scan ≡ false }
-        ensures { (keep : TheKeep) (taken : List ThePad) (before : Entries) (place byte : ℕ) → HasMetLegal keep taken self.old before → OnOk result (HasMetLegal keep taken self.new (before ++ item_entries place byte (text_command kind text.now ∷ []))) }
-    {
-        self.copper.take_text(self.scan.current())?;
-        self.scan.text(self.alloc, kind, text)?;
+/// A judge and its copper, where flashes and contours are needed.
+impl CommandSink for Met {
+    ghost use Rattle.layer_image.specs.Holding.{HasMetLegal};
+
+    ghost has_met = { λ profile keep taken met entries. (flashes_kept profile keep ≡ None) × HasMetLegal keep taken met entries };
+
+    ghost is_in_region = { λ met. is_scanning_region met.scan };
+
+    fn take_commands(&mut self, alloc: Global, entries: &[Placed<Command>]) -> Result<(), Fail> {
+        for entry in entries {
+            self.take_command(alloc, entry)?;
+        }
         Ok(())
     }
+
+    #[inline(always)]
+    fn take_operation(&mut self, passed: &PassedOperation) -> Result<(), Fail> {
+        if self.copper.passes(self.scan.current(), &passed.operation) {
+            return self.scan.operate(passed);
+        }
+        self.add_operation(passed)
+    }
+
+    fn take_text(&mut self, alloc: Global, kind: TextKind, text: &[u8]) -> Result<(), AllocError> {
+        self.copper.take_text(self.scan.current())?;
+        self.scan.text(alloc, kind, text)?;
+        Ok(())
+    }
+
+    fn has_open_region(&self) -> bool {
+        self.scan.in_region()
+    }
+
+    ghost legal = { λ profile keep taken met entries h. h.1.scanned.legal };
 }

@@ -1,13 +1,15 @@
 //! A layer that is read in pieces.
 
-ghost use Rattle.std.specs.Prelude.{◌≡◌, ◌++◌, ◌<◌, ◌≤◌, [], ℕ, List, Err, Some, OnOk, IfOk, IfErr, IfSome, false, length, take, if◌then◌else◌};
+ghost use Rattle.std.specs.Prelude.{◌≡◌, ◌++◌, ◌<◌, ◌≤◌, [], ℕ, List, Err, Some, OnOk, IfOk, IfErr, IfSome, false, length, take, true};
 ghost use Rattle.grid_units.specs.Results.{Answers, IfFault};
 ghost use Rattle.grid_units.specs.declared.profile.Profile.{Profile as TheProfile};
 ghost use Rattle.grid_units.specs.declared.profile.Profile.TheVariants.{Strict};
 ghost use Rattle.pad_shapes.specs.declared.wide_pad.WidePad.{WidePad as ThePad};
 ghost use Rattle.layer_features.specs.declared.keep.Keep.{Keep as TheKeep};
 ghost use Rattle.layer_features.specs.declared.keep.Keep.TheVariants as keep;
+ghost use Rattle.layer_image.specs.Holding.{HasMetText, ShowsLayerFaultIn};
 
+use crate::command_sink::CommandSink;
 use crate::content::LayerContent;
 use crate::layer::Layer;
 use gerber_text::{Command, Placed, WordReader};
@@ -34,7 +36,7 @@ impl LayerReader {
     ghost use Rattle.gerber_text.specs.Holding.{StandsIn, held_entries};
     ghost use Rattle.layer_features.specs.Kept.{keeps_commands};
     ghost use Rattle.layer_image.specs.Kept.{ReadsKeptIn};
-    ghost use Rattle.layer_image.specs.Holding.{LayerStands, ShowsLayerFaultIn, has_forgotten, held_plain, held_wide, layer_failure, left_pads, standing_pads};
+    ghost use Rattle.layer_image.specs.Holding.{LayerStands, has_forgotten, held_plain, held_wide, layer_failure, left_pads, standing_pads};
 
     /// A reader that has read nothing, and keeps commands, flashes and pads in the strict profile.
     pub fn new(alloc: Global) -> LayerReader
@@ -93,15 +95,19 @@ impl LayerReader {
         ensures err { (profile : TheProfile) (keep : TheKeep) (taken : List ThePad) (text : List ℕ) → LayerStands self.old profile keep taken text → IfErr result (IfFault (ShowsLayerFaultIn profile (text ++ piece.now))) }
     {
         if self.keep.commands() {
-            self.take_whole(piece)
-        } else {
-            self.take_parts(piece)
+            return self.take_whole(piece);
+        }
+        // The profile is asked once a piece, not at each command: there is a loop for each sink.
+        match &mut self.content {
+            LayerContent::Flashes(scan) => take_parts(self.alloc, &mut self.words, scan, piece),
+            LayerContent::Features(met) => take_parts(self.alloc, &mut self.words, met, piece),
         }
     }
 
     /// Takes the next piece of the text where commands are kept: the items that it ends are read, then their commands
     /// are judged.
     fn take_whole(&mut self, piece: &[u8]) -> Result<(), Fail>
+        requires { keeps_commands self.old.keep ≡ true }
         ensures ok { (profile : TheProfile) (keep : TheKeep) (taken : List ThePad) (text : List ℕ) → LayerStands self.old profile keep taken text → OnOk result (LayerStands self.new profile keep taken (text ++ piece.now)) }
         ensures err { (profile : TheProfile) (keep : TheKeep) (taken : List ThePad) (text : List ℕ) → LayerStands self.old profile keep taken text → IfErr result (IfFault (ShowsLayerFaultIn profile (text ++ piece.now))) }
     {
@@ -112,96 +118,16 @@ impl LayerReader {
         Ok(())
     }
 
-    /// Takes the next piece of the text where commands are dropped, part by part.
-    fn take_parts(&mut self, piece: &[u8]) -> Result<(), Fail>
-        requires { keeps_commands self.old.keep ≡ false }
-        ensures ok { (profile : TheProfile) (keep : TheKeep) (taken : List ThePad) (text : List ℕ) → LayerStands self.old profile keep taken text → OnOk result (LayerStands self.new profile keep taken (text ++ piece.now)) }
-        ensures err { (profile : TheProfile) (keep : TheKeep) (taken : List ThePad) (text : List ℕ) → LayerStands self.old profile keep taken text → IfErr result (IfFault (ShowsLayerFaultIn profile (text ++ piece.now))) }
-    {
-        let mut taken = 0;
-        while taken < piece.len() {
-            taken += self.take_leading(&piece[taken..])?;
-        }
-        Ok(())
-    }
-
-    /// Takes the plain operation at the start of these bytes, which becomes no command, if one stands there, else some
-    /// of the bytes. Returns how many bytes it took.
-    fn take_leading(&mut self, bytes: &[u8]) -> Result<usize, Fail>
-        requires some { 0 < length bytes.now }
-        requires dropped { keeps_commands self.old.keep ≡ false }
-        ensures taken { IfOk result (λ n. (0 < n) × (n ≤ length bytes.now)) }
-        ensures keep { self.new.keep ≡ self.old.keep }
-        ensures ok { (profile : TheProfile) (keep : TheKeep) (taken : List ThePad) (text : List ℕ) → LayerStands self.old profile keep taken text → IfOk result (λ n. LayerStands self.new profile keep taken (text ++ take n bytes.now)) }
-        ensures err { (profile : TheProfile) (keep : TheKeep) (taken : List ThePad) (text : List ℕ) → LayerStands self.old profile keep taken text → IfErr result (IfFault (ShowsLayerFaultIn profile (text ++ bytes.now))) }
-    {
-        match self.words.pass_operation(bytes) {
-            Some(passed) => {
-                let len = passed.len;
-                self.content.operate(&passed)?;
-                Ok(len)
-            }
-            None => Ok(self.take_other(bytes)?),
-        }
-    }
-
-    /// Takes the comment or the attribute at the start of these bytes, whose text is not copied, if one stands there whole,
-    /// else some of the bytes. Returns how many bytes it took.
-    // Most items are operations, which do not come here.
-    #[inline(never)]
-    fn take_other(&mut self, bytes: &[u8]) -> Result<usize, Fail>
-        requires some { 0 < length bytes.now }
-        requires dropped { keeps_commands self.old.keep ≡ false }
-        ensures taken { IfOk result (λ n. (0 < n) × (n ≤ length bytes.now)) }
-        ensures keep { self.new.keep ≡ self.old.keep }
-        ensures ok { (profile : TheProfile) (keep : TheKeep) (taken : List ThePad) (text : List ℕ) → LayerStands self.old profile keep taken text → IfOk result (λ n. LayerStands self.new profile keep taken (text ++ take n bytes.now)) }
-        ensures err { (profile : TheProfile) (keep : TheKeep) (taken : List ThePad) (text : List ℕ) → LayerStands self.old profile keep taken text → IfErr result (IfFault (ShowsLayerFaultIn profile (text ++ bytes.now))) }
-    {
-        if self.content.in_region() {
-            return self.take_part(bytes);
-        }
-        match self.words.pass_text(bytes) {
-            Some(passed) => {
-                self.content
-                    .text(self.alloc, passed.item.kind, passed.text_in(bytes))?;
-                Ok(passed.len)
-            }
-            None => self.take_part(bytes),
-        }
-    }
-
-    /// Takes some of these bytes, from the first on, judges the commands that they end and keeps or drops them. Returns
-    /// how many bytes it took.
-    // Most items are operations, which do not come here.
-    #[inline(never)]
-    fn take_part(&mut self, bytes: &[u8]) -> Result<usize, Fail>
-        requires { 0 < length bytes.now }
-        ensures taken { IfOk result (λ n. (0 < n) × (n ≤ length bytes.now)) }
-        ensures keep { self.new.keep ≡ self.old.keep }
-        ensures ok { (profile : TheProfile) (keep : TheKeep) (taken : List ThePad) (text : List ℕ) → LayerStands self.old profile keep taken text → IfOk result (λ n. LayerStands self.new profile keep taken (text ++ take n bytes.now)) }
-        ensures err { (profile : TheProfile) (keep : TheKeep) (taken : List ThePad) (text : List ℕ) → LayerStands self.old profile keep taken text → IfErr result (IfFault (ShowsLayerFaultIn profile (text ++ bytes.now))) }
-    {
-        let outcome = self.words.feed_part(bytes);
-        self.content.take_all(self.alloc, self.words.commands())?;
-        let len = outcome?;
-        self.keep_commands()?;
-        Ok(len)
-    }
-
-    /// Holds the commands that the word reader holds, or drops them. The first that are kept take no memory anew.
+    /// Holds the commands that the word reader holds. The first that are kept take no memory anew.
     fn keep_commands(&mut self) -> Result<(), AllocError>
         ensures words { (profile : TheProfile) (gone : Entries) (text : List ℕ) → StandsIn self.old.words profile gone text → StandsIn self.new.words profile (gone ++ held_entries self.old.words) text }
         ensures none { held_entries self.new.words ≡ [] }
         ensures content { self.new.content ≡ self.old.content }
         ensures profile { self.new.profile ≡ self.old.profile }
-        ensures kept { OnOk result (self.new.kept.items ≡ self.old.kept.items ++ (if keeps_commands self.old.keep then held_entries self.old.words else [])) }
+        ensures kept { OnOk result (self.new.kept.items ≡ self.old.kept.items ++ held_entries self.old.words) }
         ensures failed { self.new.failed ≡ self.old.failed }
         ensures keep { self.new.keep ≡ self.old.keep }
     {
-        if !self.keep.commands() {
-            self.words.clear_commands();
-            return Ok(());
-        }
         let mut commands = self.words.take_commands();
         if self.kept.is_empty() {
             self.kept = commands;
@@ -269,4 +195,93 @@ impl LayerReader {
         words.finish()?;
         Ok(content.finish(alloc, profile, kept)?)
     }
+}
+
+/// Takes the next piece of the text where commands are dropped, part by part.
+fn take_parts<C: CommandSink>(
+    alloc: Global,
+    words: &mut WordReader,
+    content: &mut C,
+    piece: &[u8],
+) -> Result<(), Fail>
+    ensures ok { (profile : TheProfile) (keep : TheKeep) (taken : List ThePad) (text : List ℕ) → HasMetText (C.has_met profile keep taken) words.old content.old profile text → OnOk result (HasMetText (C.has_met profile keep taken) words.new content.new profile (text ++ piece.now)) }
+    ensures err { (profile : TheProfile) (keep : TheKeep) (taken : List ThePad) (text : List ℕ) → HasMetText (C.has_met profile keep taken) words.old content.old profile text → IfErr result (IfFault (ShowsLayerFaultIn profile (text ++ piece.now))) }
+{
+    let mut taken = 0;
+    while taken < piece.len() {
+        taken += take_leading(alloc, words, content, &piece[taken..])?;
+    }
+    Ok(())
+}
+
+/// Takes the plain operation at the start of these bytes, which becomes no command, if one stands there, else some
+/// of the bytes. Returns how many bytes it took.
+fn take_leading<C: CommandSink>(
+    alloc: Global,
+    words: &mut WordReader,
+    content: &mut C,
+    bytes: &[u8],
+) -> Result<usize, Fail>
+    requires { 0 < length bytes.now }
+    ensures taken { IfOk result (λ n. (0 < n) × (n ≤ length bytes.now)) }
+    ensures ok { (profile : TheProfile) (keep : TheKeep) (taken : List ThePad) (text : List ℕ) → HasMetText (C.has_met profile keep taken) words.old content.old profile text → IfOk result (λ n. HasMetText (C.has_met profile keep taken) words.new content.new profile (text ++ take n bytes.now)) }
+    ensures err { (profile : TheProfile) (keep : TheKeep) (taken : List ThePad) (text : List ℕ) → HasMetText (C.has_met profile keep taken) words.old content.old profile text → IfErr result (IfFault (ShowsLayerFaultIn profile (text ++ bytes.now))) }
+{
+    match words.pass_operation(bytes) {
+        Some(passed) => {
+            let len = passed.len;
+            content.take_operation(&passed)?;
+            Ok(len)
+        }
+        None => Ok(take_other(alloc, words, content, bytes)?),
+    }
+}
+
+/// Takes the comment or the attribute at the start of these bytes, whose text is not copied, if one stands there whole,
+/// else some of the bytes. Returns how many bytes it took.
+// Most items are operations, which do not come here.
+#[inline(never)]
+fn take_other<C: CommandSink>(
+    alloc: Global,
+    words: &mut WordReader,
+    content: &mut C,
+    bytes: &[u8],
+) -> Result<usize, Fail>
+    requires { 0 < length bytes.now }
+    ensures ok { (profile : TheProfile) (keep : TheKeep) (taken : List ThePad) (text : List ℕ) → HasMetText (C.has_met profile keep taken) words.old content.old profile text → IfOk result (λ n. HasMetText (C.has_met profile keep taken) words.new content.new profile (text ++ take n bytes.now)) }
+    ensures err { (profile : TheProfile) (keep : TheKeep) (taken : List ThePad) (text : List ℕ) → HasMetText (C.has_met profile keep taken) words.old content.old profile text → IfErr result (IfFault (ShowsLayerFaultIn profile (text ++ bytes.now))) }
+    ensures taken { IfOk result (λ n. (0 < n) × (n ≤ length bytes.now)) }
+{
+    if content.has_open_region() {
+        return take_part(alloc, words, content, bytes);
+    }
+    match words.pass_text(bytes) {
+        Some(passed) => {
+            content.take_text(alloc, passed.item.kind, passed.text_in(bytes))?;
+            Ok(passed.len)
+        }
+        None => take_part(alloc, words, content, bytes),
+    }
+}
+
+/// Takes some of these bytes, from the first on, judges the commands that they end and drops them. Returns how many
+/// bytes it took.
+// Most items are operations, which do not come here.
+#[inline(never)]
+fn take_part<C: CommandSink>(
+    alloc: Global,
+    words: &mut WordReader,
+    content: &mut C,
+    bytes: &[u8],
+) -> Result<usize, Fail>
+    requires { 0 < length bytes.now }
+    ensures err { (profile : TheProfile) (keep : TheKeep) (taken : List ThePad) (text : List ℕ) → HasMetText (C.has_met profile keep taken) words.old content.old profile text → IfErr result (IfFault (ShowsLayerFaultIn profile (text ++ bytes.now))) }
+    ensures ok { (profile : TheProfile) (keep : TheKeep) (taken : List ThePad) (text : List ℕ) → HasMetText (C.has_met profile keep taken) words.old content.old profile text → IfOk result (λ n. HasMetText (C.has_met profile keep taken) words.new content.new profile (text ++ take n bytes.now)) }
+    ensures taken { IfOk result (λ n. (0 < n) × (n ≤ length bytes.now)) }
+{
+    let outcome = words.feed_part(bytes);
+    content.take_commands(alloc, words.commands())?;
+    let len = outcome?;
+    words.clear_commands();
+    Ok(len)
 }

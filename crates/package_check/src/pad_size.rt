@@ -3,6 +3,8 @@
 use grid_units::Rules;
 use pad_shapes::PadShape;
 use ring_rules::Drilled;
+use std::iter::StepBy;
+use std::slice::Iter;
 
 /// How much longer one side of a pad may be, compared with the other, than those for which an index is quick.
 const ALIKE: u128 = 16;
@@ -33,46 +35,44 @@ pub(crate) fn likely_size(holes: &[Drilled], rules: Rules) -> PadSize {
     let side = mean
         .saturating_add(rules.ring().unsigned_abs())
         .saturating_mul(2);
-    PadSize {
-        width: side,
-        height: side,
-    }
+    let (width, height) = (side, side);
+    PadSize { width, height }
 }
 
 /// The size of a pad, as far as it has a zone.
 fn size_of<S: PadShape>(pad: &S) -> PadSize {
-    match pad.zone(0) {
-        Some(zone) => PadSize {
-            width: zone.right.abs_diff(zone.left),
-            height: zone.top.abs_diff(zone.bottom),
-        },
-        None => PadSize {
-            width: 1,
-            height: 1,
-        },
-    }
+    let (width, height) = match pad.zone(0) {
+        Some(zone) => (
+            zone.right.abs_diff(zone.left),
+            zone.top.abs_diff(zone.bottom),
+        ),
+        None => (1, 1),
+    };
+    PadSize { width, height }
 }
 
-/// Whether most of these pads are shaped otherwise than one of this size.
+/// The pads that are measured: of more than 64 only some, at even distances.
+fn sample<S>(pads: &[S]) -> StepBy<Iter<S>> {
+    pads.iter().step_by(pads.len() / 64 + 1)
+}
+
+/// Whether most of the pads that are measured are shaped otherwise than one of this size.
 pub(crate) fn are_unlike<S: PadShape>(pads: &[S], size: PadSize) -> bool {
-    let unlike = pads
-        .iter()
+    let unlike = sample(pads)
         .filter(|pad| !size_of(*pad).is_shaped_like(size))
         .count();
-    pads.len() / 2 < unlike
+    sample(pads).count() / 2 < unlike
 }
 
-/// The mean size of pads; none where there is no pad.
+/// The mean size of the pads that are measured; none where there is no pad.
 pub(crate) fn mean_size<S: PadShape>(pads: &[S]) -> Option<PadSize> {
     let (mut width, mut height): (u64, u64) = (0, 0);
-    for pad in pads {
+    for pad in sample(pads) {
         let size = size_of(pad);
         width = width.saturating_add(size.width);
         height = height.saturating_add(size.height);
     }
-    let count = pads.len() as u64;
-    Some(PadSize {
-        width: width.checked_div(count)?,
-        height: height.checked_div(count)?,
-    })
+    let count = sample(pads).count() as u64;
+    let (width, height) = (width.checked_div(count)?, height.checked_div(count)?);
+    Some(PadSize { width, height })
 }

@@ -7,7 +7,7 @@ pub use Rattle.grid_units.specs.Spans.{is_in_span}
 pub use Rattle.grid_units.specs.declared.profile.Profile.{Profile}
 pub use Rattle.pad_shapes.specs.Holding.{HoldsCoveredHoles, covers_hole}
 pub use Rattle.pad_shapes.specs.Zones.{IsInZone}
-pub use Rattle.ring_rules.specs.Cells.{cell_at, cell_of, column_of, place_of, row_of, steps_to}
+pub use Rattle.ring_rules.specs.Cells.{cell_at, cell_of, column_of, place_of, row_of}
 pub use Rattle.ring_rules.specs.Cores.{ClearHolesAreApart, are_clear, positive_part, range_distance, square_of_cores}
 pub use Rattle.ring_rules.specs.Findings.{finding_of, gap_findings, hole_findings, is_oblique, is_refused_slot, is_ring_finding, lacks_ring, layer_findings, ring_findings}
 pub use Rattle.ring_rules.specs.Inner.ClashingPairs.{AddsClashes, AreClashing, IsClash, IsPairBefore, ListsClash, ListsClashes, in_order}
@@ -15,21 +15,21 @@ pub use Rattle.ring_rules.specs.Inner.Forms.{HasForm, HaveForms, default_entry, 
 pub use Rattle.ring_rules.specs.Inner.FoundPlaces.{AddsFound, IsSpotInZone, ListsFound}
 pub use Rattle.ring_rules.specs.Inner.Marks.{HasNoMarkFrom, NoMarkPassesFrom, RemovesMarks, gives_ring_at, is_marked}
 unfoldable pub use Rattle.ring_rules.specs.Inner.Marks.{gives_ring}
-pub use Rattle.ring_rules.specs.Inner.Regions.{AreCellsInOrder, AreInOrder, HasNoMarkIn, IsInRegion, NoMarkPassesIn}
-pub use Rattle.ring_rules.specs.Inner.SpotLists.{AddsSpots, AreSpotted, PutsInOrder}
-pub use Rattle.ring_rules.specs.Inner.Trees.{AreClosedUnmarked, AreHalves, AreTrees, AreTreesOf, HasNoMarkInLeaves, IsIn, IsInLeaf, IsPartOfGrid, NoMarkPassesInLeaves, default_node, node_at, rows_and_columns}
+pub use Rattle.ring_rules.specs.Inner.Regions.{IsInRegion, NoMarkPassesIn}
+pub use Rattle.ring_rules.specs.Inner.SpotLists.{AddsSpots, AreSpotted, Regroups}
+pub use Rattle.ring_rules.specs.Inner.Trees.{AreClosedUnmarked, AreNodes, HoldsRun, IsNode, default_node, node_at}
 pub use Rattle.ring_rules.specs.Near.{AreNearer, AreWithin, IsWithinLimits, size_of}
 pub use Rattle.ring_rules.specs.Places.{IsChained, default_hole, entry_at, hole_at, steps_above}
-pub use Rattle.ring_rules.specs.Search.{AreMarkedBy, Covering, HasTried, HasTriedCoverings, IsSearchOver, drilled_at}
+pub use Rattle.ring_rules.specs.Search.{AreMarkedBy, AreMarksOver, Covering, HasTried, HasTriedCoverings, IsSearchOver, drilled_at}
 pub use Rattle.ring_rules.specs.Spots.{AreInCells, AreSpotsOf, HasSpot, IsSpotOf, default_spot, point_at, spot_at}
 pub use Rattle.ring_rules.specs.WithoutFindings.{ApartWithoutFindings, AreAmong, FindsNoObliqueInWide, FindsOblique, GapsNamePlaces, HolesHoldWithoutFindings, JudgesByCoverings, NamesPlaces, RingsHoldWithoutFindings, RingsNamePlaces, SlotsHoldWithoutFindings, StraightWithoutFindings, WideFindsNoMore}
-pub use Rattle.ring_rules.specs.declared.axis.Axis.{Axis}
+pub use Rattle.ring_rules.specs.declared.cell_size.Axis.{Axis}
 pub use Rattle.ring_rules.specs.declared.finding.Drilled.{Drilled}
 pub use Rattle.ring_rules.specs.declared.finding.Finding.{Finding}
 pub use Rattle.ring_rules.specs.declared.finding.Finding.TheVariants.{Gap, Oblique, Ring}
-pub use Rattle.ring_rules.specs.declared.regions.Region.{Region}
 pub use Rattle.ring_rules.specs.declared.ring_index.RingIndex.{RingIndex}
 pub use Rattle.ring_rules.specs.declared.spot_list.Entry.{Entry}
+pub use Rattle.ring_rules.specs.declared.spots.Run.{Run}
 pub use Rattle.ring_rules.specs.declared.spots.Spot.{Spot}
 pub use Rattle.ring_rules.specs.declared.tree.Node.{Node}
 pub use Rattle.std.proofs.lemmas.Bool.{cases_eq, cases_lt}

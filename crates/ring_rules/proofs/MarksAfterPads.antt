@@ -1,5 +1,5 @@
 -- The marks that are left after all pads.
-use Rattle.ring_rules.proofs.Common.{◌≡◌, ℕ, ◌+◌, ◌<◌, inl, inr, Bool, true, false, List, [], ◌∷◌, ◌++◌, length, get_or, set, map, refl, sym, ap, subst, ◌∙◌, arith, ◌&&◌, ◌||◌, not, list_any, cases_eq, cases_lt, get_or_default, get_or-map, length-map, same_lists, get_or-set_same, get_or-set_other, get_or_append_left, get_or_push, GridPoint, GridHole, Profile, is_in_span, is_ring_finding, default_hole, spot_at, AreSpotsOf, drilled_at, is_marked, gives_ring, Drilled, Spot}
+use Rattle.ring_rules.proofs.Common.{◌≡◌, ℕ, ◌+◌, ◌<◌, inl, inr, Bool, true, false, List, [], ◌∷◌, ◌++◌, length, get_or, set, take, take_more, map, refl, sym, ap, subst, ◌∙◌, arith, ◌&&◌, ◌||◌, not, list_any, cases_eq, cases_lt, get_or_default, get_or-map, length-map, same_lists, get_or-set_same, get_or-set_other, get_or_append_left, get_or_push, GridPoint, GridHole, Profile, is_in_span, is_ring_finding, default_hole, spot_at, AreSpotsOf, drilled_at, is_marked, gives_ring, Drilled, Spot}
 use Rattle.std.proofs.lemmas.List.Folds.{list_any-append}
 use Rattle.ring_rules.proofs.GivesRingLemmas.{given_by_none}
 
@@ -11,6 +11,33 @@ and_nor : (n a b : Bool) → ((n && not a) && not b) ≡ (n && not (a || b))
 and_nor true true b = refl
 and_nor true false b = refl
 and_nor false a b = refl
+
+or_false : (b : Bool) → (b || false) ≡ b
+or_false true = refl
+or_false false = refl
+
+kept_unless : (now was t : Bool) → (now ≡ true → was ≡ true) → (was ≡ true → now ≡ false → t ≡ true) → (now ≡ true → t ≡ false) → now ≡ (was && not t)
+kept_unless true true true kept passed tried = absurd (let e : true ≡ false = tried refl in cc)
+kept_unless true true false kept passed tried = refl
+kept_unless true false t kept passed tried = absurd (let e : false ≡ true = kept refl in cc)
+kept_unless false true true kept passed tried = refl
+kept_unless false true false kept passed tried = absurd (let e : false ≡ true = passed refl refl in cc)
+kept_unless false false t kept passed tried = refl
+
+-- a mark after one pad more
+module _ {S : Type 0} (gives : S → Bool) (pads : List S) (n : ℕ) (pad : S) (h : n < length pads) (is : pad ≡ get_or pads n pad) where
+  any_more : list_any gives (take (n + 1) pads) ≡ (list_any gives (take n pads) || gives pad)
+  any_more =
+      ap (list_any gives) (take_more pads n pad h)
+      ∙ (list_any-append gives (take n pads) (get_or pads n pad ∷ [])
+      ∙ (ap (λ (q : S). list_any gives (take n pads) || (gives q || false)) (sym is) ∙ ap (λ (b : Bool). list_any gives (take n pads) || b) (or_false (gives pad))))
+
+  pub marked_by_more : (first was now : Bool) → was ≡ (first && not (list_any gives (take n pads))) → (now ≡ true → was ≡ true) → (was ≡ true → now ≡ false → gives pad ≡ true) → (now ≡ true → gives pad ≡ false)
+      → now ≡ (first && not (list_any gives (take (n + 1) pads)))
+  marked_by_more first was now before kept passed tried =
+      kept_unless now was (gives pad) kept passed tried
+      ∙ (ap (λ (b : Bool). b && not (gives pad)) before
+      ∙ (and_nor first (list_any gives (take n pads)) (gives pad) ∙ ap (λ (b : Bool). first && not b) (sym any_more)))
 
 module _ {S : Type 0} (covers : S → GridPoint → ℕ → Bool) (profile : Profile) (ring layer : ℕ) where
   -- a hole lacks its ring among more pads if it lacked it, and none of the others gives it

@@ -1,5 +1,5 @@
 -- Spots in the order of their cells: as they are appended, and where those of a row are.
-use Rattle.ring_rules.proofs.Common.{◌≡◌, ℕ, ◌+◌, ◌*◌, ◌<◌, ◌≤◌, ◌≤ℤ◌, ◌^◌, inl, inr, List, [], ◌∷◌, ◌++◌, length, get_or, refl, sym, ap, subst, ◌∙◌, arith, cases_lt, get_or_append_left, get_or_push, length_push, get_or_past, GridPoint, hole_at, entry_at, column_of, row_of, cell_of, default_spot, spot_at, point_at, IsSpotOf, HasSpot, AreSpotsOf, AreInCells, IsInRegion, AreInOrder, AreCellsInOrder, AddsSpots, AreSpotted, Drilled, Spot, Axis}
+use Rattle.ring_rules.proofs.Common.{◌≡◌, ℕ, ◌+◌, ◌*◌, ◌<◌, ◌≤◌, ◌^◌, inl, inr, List, [], ◌∷◌, ◌++◌, length, get_or, refl, sym, ap, subst, ◌∙◌, arith, cases_lt, get_or_append_left, get_or_push, length_push, get_or_past, GridPoint, hole_at, entry_at, column_of, row_of, cell_of, default_spot, spot_at, point_at, IsSpotOf, HasSpot, AreSpotsOf, AreInCells, IsInRegion, AddsSpots, AreSpotted, Drilled, Spot, Axis}
 use Rattle.std.proofs.lemmas.Nat.{mul-le}
 
 pub has_spot_still : (a b : List Spot) → length a ≤ length b → ((i : ℕ) → i < length a → spot_at b i ≡ spot_at a i) → (k : ℕ) → HasSpot a k → HasSpot b k
@@ -56,7 +56,6 @@ spotted_none cell holes = record {
   ended = λ i h. absurd (omega (arith, h));
   each = λ i h. absurd (omega (arith, h));
   all = λ k h l. absurd (omega (arith, l));
-  order = λ k many. absurd (let e = get_or_past zeros (k + 1) none (omega arith) in omega (arith, many, e));
 }
 
 module _ (cell : GridPoint → ℕ) (holes : List Drilled) (c : ℕ) (starts : List ℕ) (a b : List Spot) (was : AreSpotted cell holes c starts a) (adds : AddsSpots cell holes c a b) where
@@ -110,34 +109,9 @@ module _ (cell : GridPoint → ℕ) (holes : List Drilled) (c : ℕ) (starts : L
         omega (arith, f, h)
   ]
 
-  order_before : (k : ℕ) → k < c → get_or more k 0 + 16 < get_or more (k + 1) 0 → AreInOrder (get_or more k 0) (get_or more (k + 1) 0) b
-  order_before k less many i j from up below =
-      let first = start_before k (omega (arith, less)) in
-      let last = start_before (k + 1) (omega (arith, less)) in
-      let top = was.rises (k + 1) c (omega (arith, less)) (omega (arith, was.size)) in
-      let inside : j < length a = omega (arith, below, last, top, was.last) in
-      let old = was.order k (omega (arith, many, first, last)) i j (omega (arith, from, first)) up (omega (arith, below, last)) in
-      subst (λ (s : Spot). s.hole.from.x ≤ℤ (point_at b j).x) (sym (adds.kept i (omega (arith, up, inside))))
-      (subst (λ (s : Spot). (point_at a i).x ≤ℤ s.hole.from.x) (sym (adds.kept j inside)) old)
-
-  order_here : (k : ℕ) → k ≡ c → (length a + 16 < length b → AreInOrder (length a) (length b) b) → get_or more k 0 + 16 < get_or more (k + 1) 0 → AreInOrder (get_or more k 0) (get_or more (k + 1) 0) b
-  order_here k is order many i j from up below =
-      let first : get_or more k 0 ≡ get_or starts c 0 = ap (λ (n : ℕ). get_or more n 0) is ∙ start_before c (omega arith) in
-      let last : get_or more (k + 1) 0 ≡ length b = ap (λ (n : ℕ). get_or more (n + 1) 0) is ∙ start_last (c + 1) (omega arith) (omega (arith, was.size, length_push starts (length b))) in
-      order (omega (arith, many, first, last, was.last)) i j (omega (arith, from, first, was.last)) up (omega (arith, below, last))
-
-  order_more : (length a + 16 < length b → AreInOrder (length a) (length b) b) → AreCellsInOrder more b
-  order_more order k many = elim (cases_lt k c) [
-    | inl less ↦ order_before k less many
-    | inr past ↦ elim (cases_lt c k) [
-      | inl later ↦ absurd (let e = get_or_past more (k + 1) 0 (omega (arith, later, was.size, length_push starts (length b))) in omega (arith, many, e))
-      | inr same ↦ order_here k (omega (arith, past, same)) order many
-    ]
-  ]
-
   -- one more cell
-  pub spotted_more : ((k : ℕ) → k < length holes → cell (entry_at holes k) ≡ c → HasSpot b k) → (length a + 16 < length b → AreInOrder (length a) (length b) b) → AreSpotted cell holes (c + 1) (starts ++ length b ∷ []) b
-  spotted_more all order = record {
+  pub spotted_more : ((k : ℕ) → k < length holes → cell (entry_at holes k) ≡ c → HasSpot b k) → AreSpotted cell holes (c + 1) (starts ++ length b ∷ []) b
+  spotted_more all = record {
     size = omega (arith, was.size, length_push starts (length b));
     last = start_last (c + 1) (omega arith) (omega (arith, was.size, length_push starts (length b)));
     rises = rises_more;
@@ -151,7 +125,6 @@ module _ (cell : GridPoint → ℕ) (holes : List Drilled) (c : ℕ) (starts : L
       | inl less ↦ has_spot_still a b adds.longer adds.kept k (was.all k h less)
       | inr past ↦ all k h (omega (arith, l, past))
     ];
-    order = order_more order;
   }
 
 module _ (x y : Axis) (holes : List Drilled) (count : ℕ) (starts : List ℕ) (spots : List Spot) (are : AreSpotted (cell_of x y) holes count starts spots) where

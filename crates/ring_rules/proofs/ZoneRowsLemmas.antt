@@ -1,6 +1,6 @@
 -- Points of a zone are in its rows and columns.
 use Rattle.ring_rules.proofs.Common.{◌≡◌, ℕ, ℤ, ◌<◌, ◌≤◌, ◌≤ℤ◌, Bool, true, false, inl, inr, arith, GridPoint, place_of, IsInRegion, Axis, either}
-use Rattle.ring_rules.proofs.BordersLemmas.{place-le}
+use Rattle.ring_rules.proofs.PlacesLemmas.{place-le}
 
 pub in_rows : (x y : Axis) (top bottom left right : ℕ) (p : GridPoint) (low high first last : ℤ) → low ≤ℤ p.y → p.y ≤ℤ high → first ≤ℤ p.x → p.x ≤ℤ last
     → top ≤ place_of y low → place_of y high < bottom → left ≤ place_of x first → place_of x last < right → IsInRegion x y top bottom left right p

@@ -1,19 +1,13 @@
 -- The cells of a grid over a board.
-use Rattle.std.specs.Prelude.{ℕ, ℤ, ◌+◌, ◌*◌, min, List, [], ◌∷◌}
+use Rattle.std.specs.Prelude.{ℕ, ℤ, ◌+◌, ◌*◌, min, List}
 use Rattle.grid_units.specs.Points.{GridPoint}
-use Rattle.ring_rules.specs.Borders.{borders_up_to}
 use Rattle.ring_rules.specs.Places.{steps_above, entry_at}
 use Rattle.ring_rules.specs.declared.finding.Drilled.{Drilled}
-use Rattle.ring_rules.specs.declared.axis.Axis.{Axis}
+use Rattle.ring_rules.specs.declared.cell_size.Axis.{Axis}
 
--- how many borders are not above a coordinate; on a scale without borders, how many steps it lies above the low end
-abbrev pub steps_to : List ℤ → ℤ → ℕ → ℤ → ℕ
-steps_to [] low shift v = steps_above low shift v
-steps_to (b ∷ bs) low shift v = borders_up_to (b ∷ bs) v
-
--- the place of a coordinate on a scale, at most the last one
+-- the place of a coordinate on an axis, at most the last one
 abbrev pub place_of : Axis → ℤ → ℕ
-place_of s v = min (steps_to s.borders.items s.low s.shift v) s.last
+place_of s v = min (steps_above s.low s.shift v) s.last
 
 -- the column of a point: the place of its x
 abbrev pub column_of : Axis → GridPoint → ℕ

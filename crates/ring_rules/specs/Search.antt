@@ -1,20 +1,19 @@
 -- The holes of a board that lack their ring on a layer, while the pads of the layer are tried in any number of parts.
-use Rattle.std.specs.Prelude.{◌≡◌, ℕ, ◌<◌, ◌≤◌, Bool, List, length, map, get_or}
+use Rattle.std.specs.Prelude.{◌≡◌, ℕ, ◌+◌, ◌<◌, ◌≤◌, Bool, List, length, map, get_or}
 use Rattle.grid_units.specs.Points.{GridPoint}
 use Rattle.ring_rules.specs.Findings.{is_ring_finding}
 use Rattle.ring_rules.specs.Places.{default_hole}
 use Rattle.ring_rules.specs.Spots.{spot_at, AreSpotsOf}
 use Rattle.ring_rules.specs.Inner.Marks.{is_marked}
-use Rattle.ring_rules.specs.Inner.Regions.{IsHoleGrid}
-use Rattle.ring_rules.specs.Inner.Trees.{IsTreeOfGrid, AreClosedUnmarked}
+use Rattle.ring_rules.specs.Inner.Trees.{AreReady, AreClosedUnmarked}
 use Rattle.ring_rules.specs.declared.finding.Drilled.{Drilled}
 use Rattle.ring_rules.specs.declared.ring_index.RingIndex.{RingIndex}
 use Rattle.ring_rules.specs.declared.layer_search.LayerSearch.{LayerSearch}
 
--- an index in order: its spots stand in their cells, its tree holds all cells, and no hole asks for less than its least reach, in pm
+-- an index in order: its spots stand in their cells, its tree is in order, and no hole asks for less than its least reach, in pm
 pub record IsRingIndex (index : RingIndex) : Type 0 where
-  pub grid : IsHoleGrid index.cells.x index.cells.y index.cells.starts.items index.cells.spots index.rules.ring index.least
-  pub tree : IsTreeOfGrid index.cells.x index.cells.y index.nodes.items
+  pub ready : AreReady index.cells
+  pub reach : (i : ℕ) → i < length index.cells.spots → index.least ≤ (spot_at index.cells.spots i).hole.radius + index.rules.ring
   pub least : index.least ≤ 15000000000000
 
 -- an index of just these holes
@@ -22,12 +21,16 @@ pub record IsRingIndexOf (holes : List Drilled) (index : RingIndex) : Type 0 whe
   pub ready : IsRingIndex index
   pub listed : AreSpotsOf holes index.cells.spots
 
--- a search over an index: it has a mark for each spot, and no mark is left in a node that is closed
-pub record IsSearchOver (index : RingIndex) (search : LayerSearch) : Type 0 where
+-- marks over an index: one for each spot, and no mark is left in a node that is closed
+pub record AreMarksOver (index : RingIndex) (is_open marks : List Bool) : Type 0 where
   pub ready : IsRingIndex index
-  pub size : length search.marks.items ≡ length index.cells.spots
-  pub open_nodes : length search.open_nodes.items ≡ length index.nodes.items
-  pub closed : AreClosedUnmarked index.cells.x index.cells.y index.cells.spots index.nodes.items search.open_nodes.items search.marks.items
+  pub size : length marks ≡ length index.cells.spots
+  pub open_nodes : length is_open ≡ length index.cells.nodes.items
+  pub closed : AreClosedUnmarked index.cells.nodes.items is_open marks
+
+-- a search over an index: its marks are
+abbrev pub IsSearchOver : RingIndex → LayerSearch → Type 0
+IsSearchOver index search = AreMarksOver index search.open_nodes.items search.marks.items
 
 -- the hole at a place of a list, with its plating and span
 abbrev pub drilled_at : List Drilled → ℕ → Drilled

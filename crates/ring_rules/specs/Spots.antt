@@ -5,7 +5,7 @@ use Rattle.ring_rules.specs.Places.{default_hole, hole_at}
 use Rattle.ring_rules.specs.Cells.{cell_of}
 use Rattle.ring_rules.specs.declared.finding.Drilled.{Drilled}
 use Rattle.ring_rules.specs.declared.spots.Spot.{Spot}
-use Rattle.ring_rules.specs.declared.axis.Axis.{Axis}
+use Rattle.ring_rules.specs.declared.cell_size.Axis.{Axis}
 
 -- the spot that stands for an index past the end of the spots
 abbrev pub default_spot : Spot

@@ -1,9 +1,20 @@
 //! How wide and how high the cells of a board are. Any answer is right: only the time depends on it.
 
-ghost use Rattle.std.specs.Prelude.{◌^◌, ◌≤◌, unsigned_abs};
+ghost use Rattle.std.specs.Prelude.{◌^◌, ◌<◌, ◌≤◌, unsigned_abs};
 
 use crate::finding::Drilled;
 use std::alloc::{AllocError, Global};
+
+/// Places on an axis, of 2^shift pm each, from the low end up. What lies below that is at the first place, and what lies past the last
+/// place is at the last.
+#[derive(Clone, Copy)]
+pub(crate) struct Axis {
+    pub low: i64,
+    pub shift: u32,
+    pub last: usize,
+    ghost step: { shift < 64 },
+    ghost count: { last ≤ 2 ^ 60 },
+}
 
 /// Where most holes lie along an axis: from `low` up, over `span` pm.
 #[derive(Clone, Copy)]

@@ -3,11 +3,11 @@
 
 ghost use Rattle.std.specs.Prelude.{◌≡◌, ◌+◌, ◌*◌, ◌^◌, ◌<◌, ◌≤◌, ◌++◌, ◌∷◌, [], IfOk, OnOk, length, get_or, set};
 ghost use Rattle.ring_rules.specs.Places.{IsChained};
-ghost use Rattle.ring_rules.specs.Cells.{cell_of, cell_at};
+ghost use Rattle.ring_rules.specs.Cells.{place_of, cell_of, cell_at};
 
-use crate::axis::Axis;
+use crate::cell_size::Axis;
+use crate::cores::excess;
 use crate::finding::Drilled;
-use crate::places::place;
 use grid_units::{Hole, Point};
 use std::alloc::{AllocError, Global};
 
@@ -38,6 +38,14 @@ pub(crate) fn narrow(count: usize) -> Result<u32, AllocError>
         Ok(narrow) => Ok(narrow),
         Err(_) => Err(AllocError),
     }
+}
+
+/// The place of a coordinate, at most the last one.
+pub(crate) fn place(axis: &Axis, v: i64) -> usize
+    ensures value { result ≡ place_of axis.now v }
+    ensures within { result ≤ axis.now.last }
+{
+    (excess(v, axis.low) >> axis.shift).min(axis.last as u64) as usize
 }
 
 /// The number of the cell of a point, counted row by row from 0.
@@ -101,12 +109,6 @@ pub(crate) fn chained(
     ensures count { IfOk result (λ chains. length chains.head.items ≡ (y.last + 1) * (x.last + 1)) }
     ensures chained { IfOk result (λ chains. IsChained (cell_at x y holes.now) (length holes.now) chains.head.items chains.next.items) }
 {
-    match links(alloc, &x, &y, holes) {
-        Ok((head, next)) => Ok(Chains { x, y, head, next }),
-        Err(error) => {
-            drop(x);
-            drop(y);
-            Err(error)
-        }
-    }
+    let (head, next) = links(alloc, &x, &y, holes)?;
+    Ok(Chains { x, y, head, next })
 }

@@ -1,12 +1,14 @@
 //! An index of holes by their entry points, to find the holes in a zone.
 
 ghost use Rattle.std.specs.Prelude.{◌≡◌, ℕ, ◌+◌, ◌<◌, ◌≤◌, ◌≤ℤ◌, true, length, get_or, IfOk, OnOk};
+ghost use Rattle.grid_units.specs.Points.{GridPoint};
 ghost use Rattle.std.specs.List.{All, Contains};
 ghost use Rattle.pad_shapes.specs.Zones.{IsInZone};
 ghost use Rattle.ring_rules.specs.Places.{entry_at};
-ghost use Rattle.ring_rules.specs.Spots.{spot_at, point_at, AreInCells};
+ghost use Rattle.ring_rules.specs.Spots.{spot_at, point_at};
 ghost use Rattle.ring_rules.specs.Inner.Regions.{IsInRegion};
 ghost use Rattle.ring_rules.specs.Index.{IsIndexOf, IsEntryInZone};
+ghost use Rattle.ring_rules.specs.Inner.Trees.{AreReady};
 ghost use Rattle.ring_rules.specs.Inner.FoundPlaces.{IsSpotInZone, AddsFound, ListsFound};
 
 use crate::finding::Drilled;
@@ -14,6 +16,7 @@ use crate::layout::fitting_cells;
 use crate::regions::{Region, region_of};
 use crate::spot_list::SpotList;
 use crate::spots::{Cells, Run};
+use crate::tree::first_node;
 use grid_units::Point;
 use pad_shapes::Zone;
 use std::alloc::{AllocError, Global};
@@ -83,6 +86,66 @@ fn add_run(
     Ok(())
 }
 
+/// Whether no point lies in both zones.
+fn are_disjoint(a: &Zone, b: &Zone) -> bool
+    ensures { result ≡ true → (p : GridPoint) → IsInZone a.now p → IsInZone b.now p → ⊥ }
+{
+    let across = b.right < a.left || a.right < b.left;
+    across || b.top < a.bottom || a.top < b.bottom
+}
+
+/// Appends the indices of the spots of a run that are in a node, if it is a leaf. Returns the next node, and the first spot of the run that may not be looked at.
+fn add_node(
+    cells: &Cells,
+    zone: &Zone,
+    run: Run,
+    i: usize,
+    found: &mut Vec<usize>,
+) -> Result<(usize, usize), AllocError>
+    requires cells { AreReady cells.now }
+    requires within { run.end ≤ length cells.now.spots }
+    requires inside { i < length cells.now.nodes.items }
+    ensures more { IfOk result (λ next. i < next.0) }
+    ensures adds { OnOk result (AddsFound cells.now.spots zone.now found.old.items found.new.items) }
+    ensures listed { IfOk result (λ next. (k : ℕ) → run.start ≤ k → k < next.1 → k < run.end → ListsFound cells.now.spots zone.now k found.new.items) }
+{
+    let node = cells.node(i);
+    if run.start < node.run.start {
+        return Ok((cells.nodes.len(), run.start));
+    }
+    if node.run.end <= run.start {
+        return Ok((node.end, run.start));
+    }
+    if are_disjoint(zone, &node.zone) {
+        return Ok((node.end, node.run.end));
+    }
+    if node.end == i + 1 {
+        let end = node.run.end.min(run.end);
+        add_run(&cells.spots, zone, Run { end, ..run }, found)?;
+        return Ok((node.end, node.run.end));
+    }
+    Ok((i + 1, run.start))
+}
+
+/// Appends such indices of the spots of a run: one after the other where they are few, else down the tree.
+fn add_tree(cells: &Cells, zone: &Zone, run: Run, found: &mut Vec<usize>) -> Result<(), AllocError>
+    requires within { run.end ≤ length cells.now.spots }
+    requires cells { AreReady cells.now }
+    ensures adds { OnOk result (AddsFound cells.now.spots zone.now found.old.items found.new.items) }
+    ensures listed { OnOk result ((i : ℕ) → run.start ≤ i → i < run.end → ListsFound cells.now.spots zone.now i found.new.items) }
+{
+    let end = run.end;
+    let mut i = first_node(&cells.nodes, run);
+    let mut start = run.start;
+    while i < cells.nodes.len() && start < end {
+        let next = add_node(cells, zone, Run { start, end }, i, found)?;
+        i = next.0;
+        start = next.1;
+    }
+    add_run(&cells.spots, zone, Run { start, end }, found)?;
+    Ok(())
+}
+
 /// Appends such indices of the spots of a region.
 fn add_rows(
     cells: &Cells,
@@ -90,7 +153,7 @@ fn add_rows(
     region: Region,
     found: &mut Vec<usize>,
 ) -> Result<(), AllocError>
-    requires cells { AreInCells cells.now.x cells.now.y cells.now.starts.items cells.now.spots }
+    requires cells { AreReady cells.now }
     requires bottom { region.bottom ≤ cells.now.y.last + 1 }
     requires left { region.left ≤ cells.now.x.last + 1 }
     requires right { region.right ≤ cells.now.x.last + 1 }
@@ -99,7 +162,7 @@ fn add_rows(
 {
     for row in region.top..region.bottom {
         let run = cells.run(row, region.left, region.right);
-        add_run(&cells.spots, zone, run, found)?;
+        add_tree(cells, zone, run, found)?;
     }
     Ok(())
 }
@@ -117,7 +180,7 @@ fn name_places(spots: &SpotList, found: &mut [usize])
 impl Cells {
     /// Replaces `found` by the indices of the spots with their entry point in a zone.
     pub(crate) fn find(&self, zone: &Zone, found: &mut Vec<usize>) -> Result<(), AllocError>
-        requires { AreInCells self.now.x self.now.y self.now.starts.items self.now.spots }
+        requires { AreReady self.now }
         ensures all { OnOk result ((i : ℕ) → i < length self.now.spots → IsInZone zone.now (point_at self.now.spots i) → Contains found.new.items i) }
         ensures found { OnOk result (All (IsSpotInZone self.now.spots zone.now) found.new.items) }
     {

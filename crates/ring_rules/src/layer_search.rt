@@ -111,7 +111,7 @@ impl LayerSearch {
         ensures marks { IfOk result (λ search. (test : Drilled → Bool) → marks.now ≡ map test holes.now → AreMarkedBy test holes.now index.now search.marks.items) }
     {
         let marks = marks_of_spots(alloc, &index.cells.spots, marks)?;
-        let open_nodes = vec![in alloc; true; index.nodes.len()]?;
+        let open_nodes = vec![in alloc; true; index.cells.nodes.len()]?;
         Ok(LayerSearch {
             layer,
             marks,

@@ -5,28 +5,39 @@ ghost use Rattle.grid_units.specs.Points.{GridPoint};
 ghost use Rattle.pad_shapes.specs.Zones.{IsInZone};
 ghost use Rattle.ring_rules.specs.Places.{entry_at};
 ghost use Rattle.ring_rules.specs.Inner.Regions.{IsLaidOut};
-ghost use Rattle.ring_rules.specs.Inner.SpotLists.{IsSpotted};
+ghost use Rattle.ring_rules.specs.Index.{AreCellsOf};
 
-use crate::axis::Axis;
-use crate::cell_size::{Spread, shifts, spreads};
+use crate::cell_size::{Axis, Spread, shifts, spreads};
 use crate::cells::{Chains, chained};
 use crate::finding::Drilled;
 use crate::spots::{Cells, spotted};
-use crate::uneven_axes::{is_crowded, uneven_x, uneven_y};
+use crate::tree::tree_of;
 use grid_units::Point;
 use pad_shapes::Zone;
 use std::alloc::{AllocError, Global};
 
-/// The least zone that contains a zone and a point.
-fn joined(zone: Zone, at: Point) -> Zone
-    ensures old { (p : GridPoint) → IsInZone zone p → IsInZone result p }
-    ensures new { IsInZone result at }
+/// The least zone that contains two zones.
+pub(crate) fn joined(first: Zone, second: Zone) -> Zone
+    ensures first { (p : GridPoint) → IsInZone first p → IsInZone result p }
+    ensures second { (p : GridPoint) → IsInZone second p → IsInZone result p }
 {
     Zone {
-        left: zone.left.min(at.x()),
-        right: zone.right.max(at.x()),
-        bottom: zone.bottom.min(at.y()),
-        top: zone.top.max(at.y()),
+        left: first.left.min(second.left),
+        right: first.right.max(second.right),
+        bottom: first.bottom.min(second.bottom),
+        top: first.top.max(second.top),
+    }
+}
+
+/// The zone of one point.
+pub(crate) fn zone_at(at: Point) -> Zone
+    ensures { IsInZone result at }
+{
+    Zone {
+        left: at.x(),
+        right: at.x(),
+        bottom: at.y(),
+        top: at.y(),
     }
 }
 
@@ -46,24 +57,18 @@ pub fn entry_zone(holes: &[Drilled]) -> Zone
 {
     let mut zone = no_zone();
     for drilled in holes {
-        zone = joined(zone, drilled.hole.from());
+        zone = joined(zone, zone_at(drilled.hole.from()));
     }
     zone
 }
 
-/// An even scale with these ends, with places of 2^shift pm.
-fn even_axis(alloc: Global, least: i64, greatest: i64, spread: &Spread, shift: u32) -> Axis
-    ensures least { result.least ≡ least }
-    ensures greatest { result.greatest ≡ greatest }
-{
+/// A scale over a spread, with places of 2^shift pm.
+fn axis_over(spread: &Spread, shift: u32) -> Axis {
     let shift = shift.min(63);
     Axis {
         low: spread.low,
         shift,
         last: (spread.span >> shift) as usize,
-        least,
-        greatest,
-        borders: Vec::new(alloc),
     }
 }
 
@@ -75,18 +80,7 @@ fn fits(x: &Axis, y: &Axis) -> bool
 }
 
 /// The holes in the cells of two scales, or in one cell where the scales would make too many.
-fn chains_on(
-    alloc: Global,
-    holes: &[Drilled],
-    zone: &Zone,
-    x: Axis,
-    y: Axis,
-) -> Result<Chains, AllocError>
-    requires least_x { x.least ≡ zone.now.left }
-    requires greatest_x { x.greatest ≡ zone.now.right }
-    requires least_y { y.least ≡ zone.now.bottom }
-    requires greatest_y { y.greatest ≡ zone.now.top }
-    requires holds { (k : ℕ) → k < length holes.now → IsInZone zone.now (entry_at holes.now k) }
+fn chains_on(alloc: Global, holes: &[Drilled], x: Axis, y: Axis) -> Result<Chains, AllocError>
     ensures { IfOk result (λ chains. IsLaidOut chains.x chains.y chains.head.items chains.next.items holes.now) }
 {
     if fits(&x, &y) {
@@ -98,28 +92,22 @@ fn chains_on(
     chained(alloc, x, y, holes)
 }
 
-/// The holes in cells that suit zones about so wide and so high, in pm. The cells are even, or uneven where holes
-/// crowd into few of the even ones.
+/// The holes in cells that suit zones about so wide and so high, in pm, with a tree over them.
 pub(crate) fn fitting_cells(
     alloc: Global,
     holes: &[Drilled],
     width: u64,
     height: u64,
 ) -> Result<Cells, AllocError>
-    ensures { IfOk result (λ cells. IsSpotted cells.x cells.y cells.starts.items cells.spots holes.now) }
+    ensures { IfOk result (AreCellsOf holes.now) }
 {
-    let zone = entry_zone(holes);
     let (spread_x, spread_y) = spreads(alloc, holes)?;
     let (shift_x, shift_y) = shifts(&spread_x, &spread_y, holes.len(), width, height);
-    let x = even_axis(alloc, zone.left, zone.right, &spread_x, shift_x);
-    let y = even_axis(alloc, zone.bottom, zone.top, &spread_y, shift_y);
-    let even = chains_on(alloc, holes, &zone, x, y)?;
-    if !is_crowded(&even, holes) {
-        return spotted(alloc, even, holes);
-    }
-    drop(even);
-    let x = uneven_x(alloc, &zone, holes)?;
-    let y = uneven_y(alloc, &zone, holes)?;
-    let uneven = chains_on(alloc, holes, &zone, x, y)?;
-    spotted(alloc, uneven, holes)
+    let x = axis_over(&spread_x, shift_x);
+    let y = axis_over(&spread_y, shift_y);
+    let chains = chains_on(alloc, holes, x, y)?;
+    let mut cells = spotted(alloc, chains, holes)?;
+    let nodes = tree_of(alloc, &cells)?;
+    cells.nodes = nodes;
+    Ok(cells)
 }

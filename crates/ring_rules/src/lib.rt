@@ -3,7 +3,6 @@
 //! All lengths are whole picometres (pm).
 #![tactic(auto)]
 
-mod axis;
 mod cell_size;
 mod cells;
 mod clashes;
@@ -17,9 +16,7 @@ mod layout;
 mod limits;
 mod marks;
 mod near;
-mod ordered;
 mod pads;
-mod places;
 mod regions;
 mod ring_index;
 mod rings;
@@ -27,7 +24,6 @@ mod spot_list;
 mod spots;
 mod tree;
 mod tree_search;
-mod uneven_axes;
 
 pub use cores::{clear_of, core_distance_x, core_distance_y};
 pub use finding::{Drilled, Finding, is_oblique, is_refused_slot};

@@ -1,15 +1,13 @@
 //! Marks of the holes that no pad has covered so far. They stand in the order of the spots.
 
-ghost use Rattle.std.specs.Prelude.{◌≡◌, ◌+◌, ◌<◌, ◌≤◌, ◌&&◌, false, not, length};
+ghost use Rattle.std.specs.Prelude.{◌≡◌, ◌<◌, ◌≤◌, ◌&&◌, false, not, length};
 ghost use Rattle.ring_rules.specs.Inner.Marks.{gives_ring, gives_ring_at, RemovesMarks, NoMarkPassesFrom, HasNoMarkFrom};
-ghost use Rattle.ring_rules.specs.Inner.Regions.{AreInOrder};
 ghost use Rattle.pad_shapes.specs.Holding.{covers_hole};
 
 use crate::finding::is_refused_slot;
-use crate::ordered::between;
 use crate::regions::RingSearch;
 use crate::ring_index::RingIndex;
-use crate::spots::{FEW_SPOTS, Run};
+use crate::spots::Run;
 use grid_units::{Hole, Rules};
 use pad_shapes::PadShape;
 
@@ -54,24 +52,5 @@ impl<S: PadShape> RingSearch<'_, S> {
             is_left = is_left | keeps_mark;
         }
         is_left
-    }
-
-    /// Does so for the spots of one cell. Where they are many, they are in the order of x, and the pad is tried at those from its left to
-    /// its right: it covers none of the others, of which a mark may be left.
-    pub(crate) fn try_cell(&self, run: Run, marks: &mut [bool]) -> bool
-        requires within { run.end ≤ length self.now.index.now.cells.spots }
-        requires order { run.start + 16 < run.end → AreInOrder run.start run.end self.now.index.now.cells.spots }
-        requires size { length marks.old ≡ length self.now.index.now.cells.spots }
-        ensures removes { RemovesMarks (gives_ring_at S.covers self.now.index.now self.now.pad.now) marks.old marks.new }
-        ensures tried { NoMarkPassesFrom (gives_ring_at S.covers self.now.index.now self.now.pad.now) run.start run.end marks.new }
-        ensures none { result ≡ false → HasNoMarkFrom run.start run.end marks.new }
-    {
-        if run.end.saturating_sub(run.start) <= FEW_SPOTS {
-            return self.try_run(run, marks);
-        }
-        let pad = self.pad;
-        let part = between(&self.index.cells.spots, run, pad.left(), pad.right());
-        let is_left = self.try_run(part, marks);
-        is_left || run.start < part.start || part.end < run.end
     }
 }

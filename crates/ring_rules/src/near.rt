@@ -6,8 +6,9 @@ ghost use Rattle.std.specs.List.{Contains};
 ghost use Rattle.grid_units.specs.Holes.{GridHole};
 ghost use Rattle.grid_units.specs.Points.{IsCoordinate, abs_diff};
 ghost use Rattle.pad_shapes.specs.Zones.{IsInZone};
-ghost use Rattle.ring_rules.specs.Spots.{AreInCells, AreSpotsOf};
+ghost use Rattle.ring_rules.specs.Index.{AreCellsOf};
 ghost use Rattle.ring_rules.specs.Near.{length_of, size_of, IsWithinLimits, AreLimits, IsGapBound, AreNearer, AreWithin};
+ghost use Rattle.ring_rules.specs.Inner.Trees.{AreReady};
 ghost use Rattle.ring_rules.specs.Inner.ClashingPairs.{AddsClashes, AreSpotsWithin, IsClash, ListsClashes};
 
 use crate::cell_size::sample_index;
@@ -23,6 +24,9 @@ use std::alloc::{AllocError, Global};
 
 /// The most rows and spots that a hole looks at, on average, in cells that suit the search for gaps.
 const FEW_LOOKS: usize = 16;
+
+/// How many looks a row with more spots than these counts as.
+const MANY_LOOKS: usize = 8;
 
 /// The longer side of a hole's core, in pm.
 fn length_of(hole: &Hole) -> u64
@@ -142,7 +146,7 @@ fn add_near(
     near: &mut Vec<usize>,
     pairs: &mut Vec<(usize, usize)>,
 ) -> Result<(), AllocError>
-    requires cells { AreInCells cells.now.x cells.now.y cells.now.starts.items cells.now.spots }
+    requires cells { AreReady cells.now }
     requires limits { AreSpotsWithin limits cells.now.spots }
     requires inside { i < length cells.now.spots }
     ensures adds { OnOk result (AddsClashes rules.gap cells.now.spots pairs.old.items pairs.new.items) }
@@ -162,7 +166,7 @@ fn add_all_pairs(
     near: &mut Vec<usize>,
     pairs: &mut Vec<(usize, usize)>,
 ) -> Result<(), AllocError>
-    requires cells { AreInCells cells.now.x cells.now.y cells.now.starts.items cells.now.spots }
+    requires cells { AreReady cells.now }
     requires limits { AreSpotsWithin limits cells.now.spots }
     ensures adds { OnOk result (AddsClashes rules.gap cells.now.spots pairs.old.items pairs.new.items) }
     ensures found { OnOk result ((i : ℕ) → i < length cells.now.spots → ListsClashes rules.gap cells.now.spots i pairs.new.items) }
@@ -196,8 +200,7 @@ pub(crate) fn clashes_in(
     rules: Rules,
     limits: Limits,
 ) -> Result<Vec<(usize, usize)>, AllocError>
-    requires cells { AreInCells cells.now.x cells.now.y cells.now.starts.items cells.now.spots }
-    requires listed { AreSpotsOf holes.now cells.now.spots }
+    requires cells { AreCellsOf holes.now cells.now }
     requires limits { AreLimits holes.now limits }
     ensures sound { IfOk result (λ v. (p : ℕ × ℕ) → Contains v.items p → IsClash rules.gap holes.now p) }
     ensures complete { IfOk result (λ v. (p : ℕ × ℕ) → IsClash rules.gap holes.now p → Contains v.items p) }
@@ -224,9 +227,10 @@ pub(crate) fn clashes(
     clashes_in(alloc, &cells, holes, rules, limits)
 }
 
-/// How many rows a region has, and how many spots stand in the first 64 of them.
+/// How many rows a region has, and how many spots stand in the first 64 of them. Many spots of a row count as few, since the tree leads
+/// to those that are near.
 fn looks_in(cells: &Cells, region: Region) -> usize
-    requires cells { AreInCells cells.now.x cells.now.y cells.now.starts.items cells.now.spots }
+    requires cells { AreReady cells.now }
     requires bottom { region.bottom ≤ cells.now.y.last + 1 }
     requires left { region.left ≤ cells.now.x.last + 1 }
     requires right { region.right ≤ cells.now.x.last + 1 }
@@ -234,7 +238,7 @@ fn looks_in(cells: &Cells, region: Region) -> usize
     let mut looks = region.bottom.saturating_sub(region.top);
     for row in region.top..region.bottom.min(region.top.saturating_add(64)) {
         let run = cells.run(row, region.left, region.right);
-        looks = looks.saturating_add(run.end.saturating_sub(run.start));
+        looks = looks.saturating_add(run.end.saturating_sub(run.start).min(MANY_LOOKS));
     }
     looks
 }
@@ -242,7 +246,7 @@ fn looks_in(cells: &Cells, region: Region) -> usize
 /// Whether holes find their neighbours quickly in cells that were made for pads: a sample of them looks at few rows and
 /// spots. Any answer is right: only the time depends on it.
 pub(crate) fn suits_gaps(cells: &Cells, rules: Rules, limits: Limits) -> bool
-    requires { AreInCells cells.now.x cells.now.y cells.now.starts.items cells.now.spots }
+    requires { AreReady cells.now }
 {
     let draws = (cells.spots.len() as u64).min(256);
     let mut looks: usize = 0;

@@ -4,15 +4,15 @@ ghost use Rattle.std.specs.Prelude.{◌≡◌, ℕ, ◌+◌, ◌<◌, ◌≤◌,
 ghost use Rattle.std.specs.List.{list_any};
 ghost use Rattle.grid_units.specs.Points.{GridPoint};
 ghost use Rattle.ring_rules.specs.Spots.{spot_at};
-ghost use Rattle.ring_rules.specs.Search.{IsRingIndex};
+ghost use Rattle.ring_rules.specs.Search.{AreMarksOver};
 ghost use Rattle.ring_rules.specs.Inner.Marks.{gives_ring, gives_ring_at, is_marked, RemovesMarks};
 ghost use Rattle.ring_rules.specs.Inner.Regions.{IsInRegion};
-ghost use Rattle.ring_rules.specs.Inner.Trees.{AreClosedUnmarked};
 
-use crate::axis::Axis;
-use crate::places::places;
+use crate::cell_size::Axis;
+use crate::cells::place;
 use crate::regions::{Region, RingSearch, region_of};
 use crate::ring_index::RingIndex;
+use crate::spots::Run;
 use pad_shapes::PadShape;
 
 /// The most cells of a range that are tried one by one.
@@ -39,7 +39,8 @@ fn range_of<S: PadShape>(x: &Axis, y: &Axis, pad: &S, least: u64) -> CellRange
             is_strip: false,
         },
         None => {
-            let (left, last_column) = places(x, pad.left(), pad.right());
+            let left = place(x, pad.left());
+            let last_column = place(x, pad.right());
             CellRange {
                 region: Region {
                     top: 0,
@@ -64,20 +65,18 @@ fn is_small(range: CellRange) -> bool {
 impl<S: PadShape> RingSearch<'_, S> {
     /// Removes the marks of the holes to which the pad gives their ring: it covers no hole outside its range.
     fn try_pad(&self, open_nodes: &mut [bool], marks: &mut [bool])
-        requires ready { IsRingIndex self.now.index.now }
-        requires size { length marks.old ≡ length self.now.index.now.cells.spots }
-        requires open_nodes { length open_nodes.old ≡ length self.now.index.now.nodes.items }
-        requires closed { AreClosedUnmarked self.now.index.now.cells.x self.now.index.now.cells.y self.now.index.now.cells.spots self.now.index.now.nodes.items open_nodes.old marks.old }
+        requires { AreMarksOver self.now.index.now open_nodes.old marks.old }
+        ensures over { AreMarksOver self.now.index.now open_nodes.new marks.new }
         ensures removes { RemovesMarks (gives_ring_at S.covers self.now.index.now self.now.pad.now) marks.old marks.new }
-        ensures closed { AreClosedUnmarked self.now.index.now.cells.x self.now.index.now.cells.y self.now.index.now.cells.spots self.now.index.now.nodes.items open_nodes.new marks.new }
         ensures tried { (i : ℕ) → i < length self.now.index.now.cells.spots → is_marked marks.new i ≡ true → gives_ring_at S.covers self.now.index.now self.now.pad.now i ≡ false }
     {
         let index = self.index;
         let range = range_of(&index.cells.x, &index.cells.y, self.pad, index.least);
         if is_small(range) {
-            let _ = self.try_rows(range.region, marks);
+            self.try_rows(range.region, open_nodes, marks);
         } else {
-            self.try_tree(open_nodes, marks);
+            let end = index.cells.spots.len();
+            self.try_tree(Run { start: 0, end }, open_nodes, marks);
         }
     }
 }
@@ -89,11 +88,8 @@ pub(crate) fn try_pads<S: PadShape>(
     open_nodes: &mut [bool],
     marks: &mut [bool],
 )
-    requires ready { IsRingIndex index.now }
-    requires size { length marks.old ≡ length index.now.cells.spots }
-    requires open_nodes { length open_nodes.old ≡ length index.now.nodes.items }
-    requires closed { AreClosedUnmarked index.now.cells.x index.now.cells.y index.now.cells.spots index.now.nodes.items open_nodes.old marks.old }
-    ensures closed { AreClosedUnmarked index.now.cells.x index.now.cells.y index.now.cells.spots index.now.nodes.items open_nodes.new marks.new }
+    requires { AreMarksOver index.now open_nodes.old marks.old }
+    ensures over { AreMarksOver index.now open_nodes.new marks.new }
     ensures marked { (i : ℕ) → i < length index.now.cells.spots → is_marked marks.new i ≡ (is_marked marks.old i && not (list_any (gives_ring S.covers index.now.rules.profile index.now.rules.ring (spot_at index.now.cells.spots i).hole) pads.now)) }
 {
     for pad in pads {

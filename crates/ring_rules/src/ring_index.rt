@@ -3,22 +3,18 @@
 ghost use Rattle.std.specs.Prelude.{◌≡◌, ℕ, ◌+◌, ◌<◌, ◌≤◌, IfOk, length};
 ghost use Rattle.ring_rules.specs.Spots.{spot_at};
 ghost use Rattle.ring_rules.specs.Search.{IsRingIndexOf};
-ghost use Rattle.ring_rules.specs.Inner.Trees.{node_at};
 
 use crate::finding::Drilled;
 use crate::layout::fitting_cells;
 use crate::spot_list::SpotList;
 use crate::spots::Cells;
-use crate::tree::{LEAF_CELLS, Node, tree_of};
 use grid_units::{Hole, Rules};
 use std::alloc::{AllocError, Global};
 
-/// The holes of a board, as the rules look them up: in cells, with a tree of regions of these cells, and a reach that no hole
-/// falls short of, in pm.
+/// The holes of a board, as the rules look them up: in cells, with a tree over them, and a reach that no hole falls short of, in pm.
 #[derive(Drop)]
 pub struct RingIndex {
     pub(crate) cells: Cells,
-    pub(crate) nodes: Vec<Node>,
     pub(crate) least: u64,
     pub(crate) rules: Rules,
 }
@@ -61,21 +57,11 @@ impl RingIndex {
         ensures rules { IfOk result (λ index. index.rules ≡ rules) }
     {
         let cells = fitting_cells(alloc, holes, width, height)?;
-        let nodes = tree_of(alloc, &cells.x, &cells.y, LEAF_CELLS)?;
         let least = least_reach(&cells.spots, rules);
         Ok(RingIndex {
             cells,
-            nodes,
             least,
             rules,
         })
-    }
-
-    /// The node of the tree at an index.
-    pub(crate) fn node(&self, i: usize) -> Node
-        requires { i < length self.now.nodes.items }
-        ensures { result ≡ node_at self.now.nodes.items i }
-    {
-        self.nodes[i]
     }
 }

@@ -5,11 +5,12 @@ ghost use Rattle.std.specs.List.Sorted.{IsPermutation};
 ghost use Rattle.grid_units.specs.Points.{IsCoordinate};
 ghost use Rattle.ring_rules.specs.Spots.{spot_at, point_at};
 ghost use Rattle.ring_rules.specs.Inner.Forms.{hole_of_form, form_at, spot_of, HasForm};
-ghost use Rattle.ring_rules.specs.Inner.SpotLists.{PutsInOrder};
+ghost use Rattle.ring_rules.specs.Inner.SpotLists.{Regroups};
 ghost use Rattle.ring_rules.specs.declared.spot_list.Entry.{Entry};
 
 use crate::cells::narrow;
-use crate::spots::Spot;
+use crate::layout::{joined, no_zone, zone_at};
+use crate::spots::{FEW_SPOTS, Spot};
 use grid_units::{Hole, Point};
 use std::alloc::{AllocError, Global};
 use std::marker::Model;
@@ -155,12 +156,41 @@ fn form_number(forms: &mut Vec<Hole>, recent: &mut [u32], hole: &Hole) -> Result
     Ok(number)
 }
 
-/// Puts entries in the order of the x of their points.
-fn sort_entries(entries: &mut [Entry])
-    ensures order { (i j : ℕ) (d : Entry) → i ≤ j → j < length entries.new → (get_or entries.new i d).from.x ≤ℤ (get_or entries.new j d).from.x }
-    ensures same { IsPermutation entries.old entries.new }
+/// Whether the points of entries lie further apart along x than along y. Any answer is right.
+fn are_wide(entries: &[Entry]) -> bool {
+    let mut zone = no_zone();
+    for entry in entries {
+        zone = joined(zone, zone_at(entry.from));
+    }
+    zone.bottom.abs_diff(zone.top) <= zone.left.abs_diff(zone.right)
+}
+
+/// Each third time, puts entries in their order along the longer side of their box.
+fn sort_along(entries: &mut [Entry], times: u32)
+    ensures { IsPermutation entries.old entries.new }
 {
-    entries.sort_unstable_by_key(|entry| entry.from.x());
+    if times % 3 > 0 {
+        return;
+    }
+    if are_wide(entries) {
+        entries.sort_unstable_by_key(|entry| entry.from.x());
+    } else {
+        entries.sort_unstable_by_key(|entry| entry.from.y());
+    }
+}
+
+/// Puts entries together that are near each other: those of each half, of each half of these, and so on.
+fn group(entries: &mut [Entry], times: u32)
+    ensures { IsPermutation entries.old entries.new }
+{
+    if entries.len() <= FEW_SPOTS {
+        return;
+    }
+    sort_along(entries, times);
+    let middle = entries.len() / 2;
+    let (first, second) = entries.split_at_mut(middle);
+    group(first, times.wrapping_add(1));
+    group(second, times.wrapping_add(1));
 }
 
 impl SpotList {
@@ -208,12 +238,12 @@ impl SpotList {
         self.entries[i].place as usize
     }
 
-    /// Puts the spots from an index on in the order of the x of their entry points.
-    pub(crate) fn sort_from(&mut self, start: usize)
+    /// Puts the spots from an index on together with those that are near them.
+    pub(crate) fn group_from(&mut self, start: usize)
         requires { start ≤ length self.old }
-        ensures { PutsInOrder start self.old self.new }
+        ensures { Regroups start self.old self.new }
     {
-        sort_entries(&mut self.entries[start..]);
+        group(&mut self.entries[start..], 0);
     }
 
     /// Appends a spot.

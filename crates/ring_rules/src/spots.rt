@@ -3,18 +3,19 @@
 ghost use Rattle.std.specs.Prelude.{◌≡◌, ℕ, [], ◌∷◌, ◌+◌, ◌*◌, ◌<◌, ◌≤◌, IfOk, OnOk, length, get_or};
 ghost use Rattle.ring_rules.specs.Places.{IsChained};
 ghost use Rattle.ring_rules.specs.Cells.{cell_of, cell_at};
-ghost use Rattle.ring_rules.specs.Spots.{point_at, HasSpot, AreInCells};
-ghost use Rattle.ring_rules.specs.Inner.Regions.{IsInRegion, IsLaidOut, AreInOrder};
-ghost use Rattle.ring_rules.specs.Inner.SpotLists.{AddsSpots, AreSpotted, IsSpotted};
+ghost use Rattle.ring_rules.specs.Spots.{point_at, HasSpot, AreSpotsOf, AreInCells};
+ghost use Rattle.ring_rules.specs.Inner.Regions.{IsInRegion, IsLaidOut};
+ghost use Rattle.ring_rules.specs.Inner.SpotLists.{AddsSpots, AreSpotted};
 
-use crate::axis::Axis;
+use crate::cell_size::Axis;
 use crate::cells::{Chains, link_at, narrow};
 use crate::finding::Drilled;
 use crate::spot_list::SpotList;
+use crate::tree::Node;
 use grid_units::Hole;
 use std::alloc::{AllocError, Global};
 
-/// The most spots that are tried one by one, and that a cell has in no order.
+/// The most spots that are tried one by one, without the tree, and that a leaf of the tree has.
 pub(crate) const FEW_SPOTS: usize = 16;
 
 /// A hole, and its place in the list.
@@ -24,14 +25,15 @@ pub(crate) struct Spot {
     pub place: usize,
 }
 
-/// The holes of a board in the order of their cells. Those of a cell begin at its start, and end at that of the next one. Where
-/// they are many, they are in the order of the x of their entry points.
+/// The holes of a board in the order of their cells, and a tree over them. Those of a cell begin at its start, and end at that of the
+/// next one. Where they are many, what is near stands together there, so that the leaves of the tree are small.
 #[derive(Drop)]
 pub(crate) struct Cells {
     pub x: Axis,
     pub y: Axis,
     pub starts: Vec<u32>,
     pub spots: SpotList,
+    pub nodes: Vec<Node>,
 }
 
 /// Spots that follow each other, from `start` to `end`, the end excluded.
@@ -82,7 +84,7 @@ fn push_chain(
     Ok(())
 }
 
-/// Appends the spots of a cell. Where they are many, they are put in the order of x.
+/// Appends the spots of a cell. Where they are many, what is near is put together.
 fn push_cell(
     chains: &Chains,
     holes: &[Drilled],
@@ -90,14 +92,13 @@ fn push_cell(
     spots: &mut SpotList,
 ) -> Result<(), AllocError>
     requires { IsChained (cell_at chains.now.x chains.now.y holes.now) (length holes.now) chains.now.head.items chains.now.next.items }
-    ensures adds { OnOk result (AddsSpots (cell_of chains.now.x chains.now.y) holes.now cell spots.old spots.new) }
     ensures all { OnOk result ((k : ℕ) → k < length holes.now → cell_at chains.now.x chains.now.y holes.now k ≡ cell → HasSpot spots.new k) }
-    ensures order { OnOk result (length spots.old + 16 < length spots.new → AreInOrder (length spots.old) (length spots.new) spots.new) }
+    ensures adds { OnOk result (AddsSpots (cell_of chains.now.x chains.now.y) holes.now cell spots.old spots.new) }
 {
     let start = spots.len();
     push_chain(chains, holes, cell, spots)?;
     if FEW_SPOTS < spots.len().saturating_sub(start) {
-        spots.sort_from(start);
+        spots.group_from(start);
     }
     Ok(())
 }
@@ -122,10 +123,11 @@ fn push_cells(
     Ok(())
 }
 
-/// The holes of chains in the order of their cells.
+/// The holes of chains in the order of their cells, without a tree so far.
 pub(crate) fn spotted(alloc: Global, chains: Chains, holes: &[Drilled]) -> Result<Cells, AllocError>
     requires { IsLaidOut chains.x chains.y chains.head.items chains.next.items holes.now }
-    ensures { IfOk result (λ cells. IsSpotted cells.x cells.y cells.starts.items cells.spots holes.now) }
+    ensures cells { IfOk result (λ cells. AreInCells cells.x cells.y cells.starts.items cells.spots) }
+    ensures listed { IfOk result (λ cells. AreSpotsOf holes.now cells.spots) }
 {
     let mut starts = Vec::with_capacity(alloc, chains.head.len() + 1)?;
     let mut spots = SpotList::with_capacity(alloc, holes.len())?;
@@ -136,5 +138,6 @@ pub(crate) fn spotted(alloc: Global, chains: Chains, holes: &[Drilled]) -> Resul
         y: chains.y,
         starts,
         spots,
+        nodes: Vec::new(alloc),
     })
 }

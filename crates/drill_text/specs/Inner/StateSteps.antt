@@ -1,10 +1,10 @@
 -- The state, which is what a reader keeps of the commands that it has met, and what its steps do.
-use Rattle.std.specs.Prelude.{◌≡◌, ◌⊎◌, ℕ, ℤ, Bool, true, false, ◌||◌, ◌&&◌, List, [], ◌∷◌, ◌++◌, length, ◌≤ℤ◌, ◌/◌, nat_le, int_le, pos, unsigned_abs, Result, Ok, Err, Option, None, Some, is_some, unwrap_or, nat_eq, if◌then◌else◌}
+use Rattle.std.specs.Prelude.{◌≡◌, ◌⊎◌, ℕ, ℤ, Bool, true, false, ◌||◌, ◌&&◌, List, [], ◌∷◌, ◌++◌, length, ◌≤ℤ◌, ◌/◌, nat_le, pos, unsigned_abs, Result, Ok, Err, Option, None, Some, is_some, unwrap_or, nat_eq, if◌then◌else◌}
 use Rattle.std.specs.Option.{option_or, option_and_then, option_map, option_to_list}
 use Rattle.std.specs.List.{list_any}
 use Rattle.indexmap.specs.IndexMap.{get}
 use Rattle.grid_units.specs.declared.fault.Reason.{Reason}
-use Rattle.grid_units.specs.declared.fault.Reason.TheVariants.{NoTool, BadSize, TooFar, TooManyHoles, NoPlating, PlatingConflict}
+use Rattle.grid_units.specs.declared.fault.Reason.TheVariants.{TooFar, TooManyHoles, NoPlating, PlatingConflict}
 use Rattle.grid_units.specs.Results.{◌>>=◌}
 use Rattle.grid_units.specs.Lists.{last_set}
 use Rattle.grid_units.specs.Points.{GridPoint, max_coordinate}
@@ -17,7 +17,7 @@ use Rattle.drill_lines.specs.declared.command.Coordinates.{Coordinates}
 use Rattle.drill_lines.specs.declared.command.Settings.{Settings}
 use Rattle.drill_lines.specs.declared.command.DrillCommand.{DrillCommand}
 use Rattle.drill_lines.specs.declared.command.DrillCommand.TheVariants as command
-use Rattle.grid_units.specs.Numbers.{is_too_far, within_limit}
+use Rattle.grid_units.specs.Numbers.{is_too_far}
 use Rattle.drill_lines.specs.Formats.{Digits}
 use Rattle.drill_lines.specs.declared.plating.Plating.{Plating}
 use Rattle.drill_lines.specs.declared.plating.Plating.TheVariants.{Unsaid}
@@ -30,7 +30,7 @@ use Rattle.drill_text.specs.Lookback.{StateView, state_after, part_set, unit_set
 use Rattle.drill_text.specs.Holes.{DrillPath, coordinate_in, unit_or, hole_of, holes_of}
 use Rattle.drill_text.specs.Outcome.{diameter_of_tool, diameters, kept_platings}
 use Rattle.drill_text.specs.Plating.{calls_plated, calls_unplated, is_plated, is_unsaid, plating_of_tool, plating_set, rule_in, said_after, tool_made}
-use Rattle.drill_text.specs.Rules.{drills, redefines_tool, has_no_tool, max_holes}
+use Rattle.drill_text.specs.Rules.{drills, redefines_tool, max_holes, width_with}
 
 -- what stands before the next command, by the fields of the state
 abbrev pub state_of : DrillState → StateView
@@ -92,8 +92,6 @@ after c s = record {
   y = option_or (last_set y_set (points_in c)) s.y;
 }
 
--- ---- the hole that a command drills, by what stands
-
 -- the point that names these coordinates; where it leaves one out, it has that of the last point (x, y)
 abbrev pub resolved_point : Units → Option ℤ → Option ℤ → Coordinates → GridPoint
 resolved_point unit x y point = record { x = coordinate_in unit (option_or point.x x); y = coordinate_in unit (option_or point.y y) }
@@ -116,21 +114,9 @@ drill_path s (command.Hit point) = Some (path_between s point no_point)
 drill_path s (command.Slot first second) = Some (path_between s first second)
 drill_path s _ = None
 
--- a length in pm, unless it is above 10 m: TooFar
-abbrev pub length_in : Units → Option ℤ → Result ℤ Reason
-length_in unit v = within_limit (coordinate_in unit v)
-
 -- the point at these coordinates, unless one of them is above 10 m: TooFar
 abbrev pub point_in : Units → Option ℤ → Option ℤ → Result GridPoint Reason
 point_in unit x y = if is_too_far (coordinate_in unit x) || is_too_far (coordinate_in unit y) then Err TooFar else Ok (record { x = coordinate_in unit x; y = coordinate_in unit y })
-
--- the diameter of the picked tool in pm, 0 where there is none
-abbrev pub width_in : StateView → ℤ
-width_in s = coordinate_in (unit_or s.settings.unit) (option_and_then s.diameter s.tool)
-
--- the diameter of the picked tool in pm; or NoTool, BadSize or TooFar, in this order
-abbrev pub width_of : StateView → Result ℤ Reason
-width_of s = if has_no_tool s then Err NoTool else if int_le (width_in s) (pos 0) then Err BadSize else within_limit (width_in s)
 
 -- a diameter that a hole can have: 2 pm to 10 m, so that half of it is at least 1 pm
 abbrev pub IsWidth : ℤ → Type 0
@@ -142,14 +128,10 @@ hole_between count width from to = if nat_le max_holes count then Err TooManyHol
 
 -- the hole from one point to another, or the first rule that it breaks: NoTool, BadSize, TooFar, TooManyHoles
 abbrev pub hole_in : StateView → ℕ → Coordinates → Coordinates → Result GridHole Reason
-hole_in s count first second = width_of s >>= λ width.
+hole_in s count first second = width_with (unit_or s.settings.unit) s.tool (option_and_then s.diameter s.tool) >>= λ width.
     (point_in (unit_or s.settings.unit) (option_or first.x s.x) (option_or first.y s.y) >>= λ from.
     (point_in (unit_or s.settings.unit) (option_or second.x (option_or first.x s.x)) (option_or second.y (option_or first.y s.y)) >>= λ to.
     hole_between count width from to))
-
--- the round hole at these coordinates, or the first rule that it breaks
-abbrev pub round_hole : StateView → ℕ → Option ℤ → Option ℤ → Result GridHole Reason
-round_hole s count x y = width_of s >>= λ width. (point_in (unit_or s.settings.unit) x y >>= λ at. hole_between count width at at)
 
 -- what stands after a line that gives this unit, these zeros and this format
 abbrev pub after_format : Option Units → Option Zeros → Option Digits → StateView → StateView
@@ -238,3 +220,7 @@ abbrev pub AppliesOrRefuses : PlatingKind → List DrillCommand → DrillCommand
 AppliesOrRefuses kind before c new (Ok _) = (rule_in kind before c ≡ None) × IsStateAfter new kind (before ++ c ∷ [])
 AppliesOrRefuses kind before c new (Err (stops.Refused broken)) = rule_in kind before c ≡ Some broken
 AppliesOrRefuses kind before c new (Err stops.Memory) = Unit {0}
+
+-- so it is after whatever commands the old state is that
+abbrev pub JudgesNext : DrillState → DrillCommand → DrillState → Result (Unit {0}) ItemFail → Type 0
+JudgesNext old c new result = (kind : PlatingKind) (before : List DrillCommand) → IsStateAfter old kind before → AppliesOrRefuses kind before c new result

@@ -3,11 +3,9 @@ use Rattle.std.specs.Prelude.{◌≡◌, ℕ, ◌+◌, ◌<◌, ◌≤◌, List,
 use Rattle.std.specs.List.Sorted.{IsPermutation}
 use Rattle.grid_units.specs.Points.{GridPoint}
 use Rattle.ring_rules.specs.Places.{entry_at}
-use Rattle.ring_rules.specs.Spots.{spot_at, point_at, IsSpotOf, HasSpot, AreSpotsOf, AreInCells}
-use Rattle.ring_rules.specs.Inner.Regions.{IsOnBoard, AreInOrder, AreCellsInOrder}
+use Rattle.ring_rules.specs.Spots.{spot_at, point_at, IsSpotOf, HasSpot}
 use Rattle.ring_rules.specs.declared.finding.Drilled.{Drilled}
 use Rattle.ring_rules.specs.declared.spots.Spot.{Spot}
-use Rattle.ring_rules.specs.declared.axis.Axis.{Axis}
 
 -- only spots of a cell were appended
 pub record AddsSpots (cell : GridPoint → ℕ) (holes : List Drilled) (c : ℕ) (before after : List Spot) : Type 0 where
@@ -16,12 +14,11 @@ pub record AddsSpots (cell : GridPoint → ℕ) (holes : List Drilled) (c : ℕ)
   pub each : (i : ℕ) → length before ≤ i → i < length after → IsSpotOf holes (spot_at after i)
   pub here : (i : ℕ) → length before ≤ i → i < length after → cell (point_at after i) ≡ c
 
--- the spots from an index on were put in the order of x, and those before it stayed
-pub record PutsInOrder (start : ℕ) (before after : List Spot) : Type 0 where
+-- the spots from an index on were put in another order, and those before it stayed
+pub record Regroups (start : ℕ) (before after : List Spot) : Type 0 where
   pub size : length after ≡ length before
   pub kept : (i : ℕ) → i < start → spot_at after i ≡ spot_at before i
   pub same : IsPermutation (drop start before) (drop start after)
-  pub order : AreInOrder start (length after) after
 
 -- the spots of the first `c` cells, in the order of their cells, and the starts of these cells and of the next one
 pub record AreSpotted (cell : GridPoint → ℕ) (holes : List Drilled) (c : ℕ) (starts : List ℕ) (spots : List Spot) : Type 0 where
@@ -32,11 +29,3 @@ pub record AreSpotted (cell : GridPoint → ℕ) (holes : List Drilled) (c : ℕ
   pub ended : (i : ℕ) → i < length spots → i < get_or starts (cell (point_at spots i) + 1) 0
   pub each : (i : ℕ) → i < length spots → IsSpotOf holes (spot_at spots i)
   pub all : (k : ℕ) → k < length holes → cell (entry_at holes k) < c → HasSpot spots k
-  pub order : AreCellsInOrder starts spots
-
--- the holes of a board are in the order of their cells, and their entry points lie on the board
-pub record IsSpotted (x y : Axis) (starts : List ℕ) (spots : List Spot) (holes : List Drilled) : Type 0 where
-  pub cells : AreInCells x y starts spots
-  pub listed : AreSpotsOf holes spots
-  pub ends : (k : ℕ) → k < length holes → IsOnBoard x y (entry_at holes k)
-  pub order : AreCellsInOrder starts spots

@@ -10,11 +10,11 @@ ring_findings_from_bests-requires c =
     let layers : map (λ (pads : Bor (List WidePad)). pads.now) c.deref.result.now ≡ board.layers =
     ap (map (λ (pads : Bor (List WidePad)). pads.now)) c.deref.ensures.value ∙ c.in_ok-layers.ensures in
     record {
-      size = c.requires.size ∙ ap length (sym layers);
+      size = c.requires.bests.size ∙ ap length (sym layers);
       each = λ layer inside.
           subst (λ (hs : List Drilled). AreBestPads wide_pad_covers (get_or (map (λ (pads : Bor (List WidePad)). pads.now) c.deref.result.now) layer []) hs (get_or bests layer [])) (sym c.holes-holes.ensures)
           (subst (λ (ls : List (List WidePad)). AreBestPads wide_pad_covers (get_or ls layer []) board.holes (get_or bests layer [])) (sym layers)
-          (c.requires.each layer (let same = ap length layers in omega (arith, inside, same))));
+          (c.requires.bests.each layer (let same = ap length layers in omega (arith, inside, same))));
     }
 
 pub returns-clause-places : goal.returns-clause-places

@@ -8,7 +8,7 @@ use Rattle.board_report.proofs.measure.rings_on.Goals.{then-layer-eq0+in_ok-scal
 
 pub loop-layer-init : goal.loop-layer-init
 loop-layer-init c = record {
-  met = subst (λ (layers : List (Bor (List WidePad))). MeetsOnLayers wide_pad_covers c.args.profile (map (λ pads. pads.now) layers) c.holes-holes.result.now 0 c.met_without_layers-met.result) c.deref.ensures.value (c.met_without_layers-met.ensures c.args.profile);
+  met = subst (λ (layers : List (Bor (List WidePad))). MeetsOnLayers wide_pad_covers c.args.profile (map (λ pads. pads.now) layers) c.holes-holes.result.now 0 c.met_without_layers-met.result) c.deref-2.ensures.value (c.met_without_layers-met.ensures c.args.profile);
   lines = subst (AreRowLines c.args.profile c.args.board.now (λ key. key.layer < 0)) (sym c.new-lines.ensures.items) (none c.args.profile c.args.board.now (λ key. key.layer < 0) (λ key less some. omega (arith, less)));
   scales = subst (ScalesAt c.args.board.now 0) (sym c.new-scales.ensures.items) (no_layer_yet c.args.board.now);
   bests = λ keeps. subst (λ (kept : List (Vec (Option BestPad))). AreLayerBests c.args.board.now 0 (map (λ bests. bests.items) kept)) (sym c.new-kept.ensures.items) (none_kept c.args.board.now);
@@ -47,6 +47,9 @@ returns-clause-scales c =
     let all = ap length c.in_ok-layers.ensures in
     let past : length c.args.board.now.layers ≤ c.loop-layer.layer = omega (arith, size, mapped, all, c.loop-layer-test.false) in
     all_layers c.args.board.now c.loop-layer.layer c.loop-layer.scales.items past c.loop-layer.invariant.scales
+
+pub returns-clause-lines : goal.returns-clause-lines
+returns-clause-lines c = subst (λ (n : ℕ). AreRowLines c.args.profile c.args.board.now (λ key. key.layer < n) c.loop-layer.lines.items) (all_layers_seen c) c.loop-layer.invariant.lines
 
 pub returns-clause-met : goal.returns-clause-met
 returns-clause-met c =

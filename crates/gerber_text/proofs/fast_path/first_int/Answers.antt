@@ -13,7 +13,7 @@ returns-clause-value c =
     let len = c.first_digits-magnitude.result.1 in
     let parts = c.first_digits-magnitude.ensures in
     let fits : to_z w64 (of_z w64 c.signed.result) ≡ c.signed.result = search (rules, to_z-of_z) in
-    let value = fits ∙ (c.signed.ensures.value ∙ ap (λ t. cond t (neg_ℤ (pos n)) (pos n)) c.is_negative.ensures) in
+    let value = fits ∙ (c.signed.ensures.value ∙ ap (λ t. cond t (neg_ℤ (pos n)) (pos n)) c.is_negative-negative.ensures) in
     let some : 0 < len = omega (arith, c.if-len-eq0.false) in
     let found = begins_with_int bytes digits n len c.without_sign-digits.ensures some parts.within parts.short (recursion_from_All (λ b. is_digit b ≡ true) (take len digits) parts.digits) parts.value in
     subst (λ (z : ℤ). HasLeadingInt bytes z (take (length digits - len) (drop len digits))) (sym value) (subst (HasLeadingInt bytes _) (sym (take_rest digits len)) found)

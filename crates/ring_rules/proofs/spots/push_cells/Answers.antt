@@ -14,4 +14,4 @@ loop-cell-preserved c =
     let now : List Spot = c.push_cell.new.spots in
     let start : c.push.new.self.items ≡ c.loop-cell.starts.items ++ length c.push_cell.new.spots ∷ [] = c.in_ok-push.ensures.items ∙ ap (λ (n : ℕ). c.loop-cell.starts.items ++ n ∷ []) (c.in_ok-start.ensures ∙ c.len.ensures) in
     subst (λ (xs : List ℕ). AreSpotted cell c.args.holes.now (c.loop-cell.cell + 1) xs now) (sym start)
-    (spotted_more cell c.args.holes.now c.loop-cell.cell c.loop-cell.starts.items c.loop-cell.spots now c.loop-cell.invariant c.in_ok-push_cell.ensures.adds c.in_ok-push_cell.ensures.all c.in_ok-push_cell.ensures.order)
+    (spotted_more cell c.args.holes.now c.loop-cell.cell c.loop-cell.starts.items c.loop-cell.spots now c.loop-cell.invariant c.in_ok-push_cell.ensures.adds c.in_ok-push_cell.ensures.all)

@@ -1,19 +1,24 @@
-use Rattle.ring_rules.proofs.Common.{◌≡◌, ◌+◌, ◌≤◌, List, length, ap, ◌∙◌, arith, length_push, Node}
-use Rattle.ring_rules.proofs.TreeLemmas.{with_end, pushed_halves, first_part, second_part}
+use Rattle.ring_rules.proofs.Common.{◌≡◌, ◌+◌, ◌<◌, length, ap, ◌∙◌, arith, length_push, HoldsRun, Node}
+use Rattle.ring_rules.proofs.TreeLemmas.{holds_both, nodes_set}
 use Rattle.ring_rules.proofs.tree.+push_tree.Goals as goal
 
-pub returns-clause-trees : goal.returns-clause-trees
-returns-clause-trees t c = λ x y part.
-    let parts = c.in-Some.parts in
-    let region = c.args.region in
-    let o : List Node = c.args.nodes.now.items in
-    let a : List Node = c.push.new.self.items in
-    let b : List Node = c.push_tree.new.nodes.items in
-    let all : List Node = c.push_tree-2.new.nodes.items in
+pub returns-clause-nodes : goal.returns-clause-nodes
+returns-clause-nodes t c =
+    let spots = c.args.cells.now.spots in
+    let run = c.args.run in
+    let node : Node = record { run = c.args.run; zone = c.joined-zone.result; end = c.len-end.result } in
     let same : c.len-at.result ≡ length c.args.nodes.now.items = c.len-at.ensures ∙ c.args.nodes.now.ok.0 in
-    let next : length c.push.new.self.items ≡ length c.args.nodes.now.items + 1 = ap length c.in_ok-push.ensures.items ∙ length_push c.args.nodes.now.items (with_end c.args.region (c.len-at.result + 1)) in
-    let low : length c.push.new.self.items ≤ length c.push_tree.new.nodes.items = omega (arith, c.in_ok-push_tree.ensures.longer) in
-    let high : length c.push_tree.new.nodes.items ≤ length c.push_tree-2.new.nodes.items = omega (arith, c.in_ok-push_tree-2.ensures.longer) in
-    pushed_halves x y region parts o a b all c.len-at.result c.len-end.result same next low high (c.len-end.ensures ∙ c.push_tree-2.new.nodes.ok.0) c.in-Some.ensures part c.in_ok-push_tree-2.ensures.kept
-    (c.in_ok-push_tree.ensures.trees x y (first_part x y region parts c.in-Some.ensures part))
-    (c.in_ok-push_tree-2.ensures.trees x y (second_part x y region parts c.in-Some.ensures part))
+    let last : c.len-end.result ≡ length c.push_tree-2.new.nodes.items = c.len-end.ensures ∙ c.push_tree-2.new.nodes.ok.0 in
+    let low : c.len-at.result < length c.push.new.self.items = (let e = ap length c.in_ok-push.ensures.items in let l = length_push c.args.nodes.now.items (record { run = record { start = 0; end = 0 }; zone = c.no_zone.result; end = c.len-at.result + 1 }) in omega (arith, e, l, same)) in
+    let inside : c.len-at.result < length c.push_tree-2.new.nodes.items = omega (arith, low, c.in_ok-first.ensures.longer, c.in_ok-second.ensures.longer) in
+    nodes_set spots c.push_tree-2.new.nodes.items c.len-at.result node c.in_ok-second.ensures.nodes
+    (record {
+      within = c.requires.within;
+      more = omega (arith, inside, last);
+      holds = holds_both spots run.start c.parting-middle.result run.end c.in_ok-first.first c.in_ok-second.second c.joined-zone.result c.joined-zone.ensures.first c.joined-zone.ensures.second c.in_ok-first.ensures.zone c.in_ok-second.ensures.zone;
+    })
+    inside
+
+pub returns-clause-zone : goal.returns-clause-zone
+returns-clause-zone t c =
+    holds_both c.args.cells.now.spots c.args.run.start c.parting-middle.result c.args.run.end c.in_ok-first.first c.in_ok-second.second c.joined-zone.result c.joined-zone.ensures.first c.joined-zone.ensures.second c.in_ok-first.ensures.zone c.in_ok-second.ensures.zone

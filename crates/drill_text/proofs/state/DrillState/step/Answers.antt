@@ -1,18 +1,12 @@
-use Rattle.drill_text.proofs.Common.{length, refl, sym, subst, DrillCommand, state_of, AppliesOrRefuses, no_point, path_between}
+use Rattle.drill_text.proofs.Common.{length, refl, sym, subst, DrillCommand, state_of, AppliesOrRefuses, path_between}
 use Rattle.drill_lines.specs.declared.command.DrillCommand.TheVariants as command
-use Rattle.drill_text.proofs.Lookbacks.{moved_one, moved_two}
-use Rattle.drill_text.proofs.HoleLines.{hit_rule, slot_rule}
+use Rattle.drill_text.proofs.Lookbacks.{moved_two}
+use Rattle.drill_text.proofs.HoleLines.{slot_rule}
 use Rattle.drill_text.proofs.AppliedHoles.{judges_drilled}
 use Rattle.drill_text.proofs.state.DrillState.step.Goals as goal
 
 pub returns-in-Hit : goal.returns-in-Hit
-returns-in-Hit c kind before is_state =
-    let old = c.args.self.now in
-    let s = state_of old in
-    let p = c.in-Hit.point in
-    subst (λ (d : DrillCommand). AppliesOrRefuses kind before d c.drill_hit.new.self c.drill_hit.result) (sym c.in-Hit.is)
-    (judges_drilled old c.drill_hit.new.self kind before (command.Hit p) p no_point (path_between s p no_point) c.drill_hit.result is_state
-    (record { path = refl; rule = hit_rule s (length old.holes.items) p; moves = moved_one p s; defines = refl; makes = λ number. refl; drilled = refl; silent = refl; unheard = refl; hears = refl }) c.drill_hit.ensures)
+returns-in-Hit c kind before is_state = subst (λ (d : DrillCommand). AppliesOrRefuses kind before d c.step_hit.new.self c.step_hit.result) (sym c.in-Hit.is) (c.step_hit.ensures kind before is_state)
 
 pub returns-in-Slot : goal.returns-in-Slot
 returns-in-Slot c kind before is_state =

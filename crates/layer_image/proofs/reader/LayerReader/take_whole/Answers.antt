@@ -1,6 +1,5 @@
 -- The rule's fault comes before the fault of a later item, and where there is none the commands are met and gone.
-use Rattle.layer_image.proofs.Common.{◌++◌, [], cond, sym, subst, ◌∙◌, err_from_is_err_and, Entries, held_entries, LayerContent, HasContent, keeps_commands}
-use Rattle.layer_state.proofs.KeptFlashesLemmas.{kept_append}
+use Rattle.layer_image.proofs.Common.{◌++◌, [], ap, cond, sym, subst, ◌∙◌, err_from_is_err_and, Entries, held_entries, LayerContent, HasContent, keeps_commands}
 use Rattle.layer_image.proofs.Pieces.{legal_content, rule_shown, words_shown}
 use Rattle.layer_image.proofs.reader.LayerReader.take_whole.Goals as goal
 
@@ -22,6 +21,7 @@ returns-in_err-outcome-clause-err c profile keep taken text h =
 pub returns-clause-ok : goal.returns-clause-ok
 returns-clause-ok c profile keep taken text h =
     let now = held_entries c.feed-outcome.new.self in
+    let all = ap keeps_commands (sym h.same) ∙ c.requires in
     let content = subst (λ (x : Entries). HasContent profile keep taken c.take_all.new.self (h.gone ++ x)) c.commands.ensures.held (c.in_ok-take_all.ensures.ok profile keep taken h.gone h.content) in
     record {
       sound = c.in_ok-keep_commands.ensures.failed ∙ h.sound;
@@ -31,5 +31,5 @@ returns-clause-ok c profile keep taken text h =
       words = c.in_ok-keep_commands.ensures.words profile h.gone (text ++ c.args.piece.now) (c.in_ok-outcome.ensures.ok profile h.gone text h.words);
       none = c.in_ok-keep_commands.ensures.none;
       content = subst (λ (s : LayerContent). HasContent profile keep taken s (h.gone ++ now)) (sym c.in_ok-keep_commands.ensures.content) content;
-      kept = c.in_ok-keep_commands.ensures.kept ∙ (λ i. h.kept i ++ cond (keeps_commands (h.same i)) now []) ∙ sym (kept_append (keeps_commands keep) h.gone now);
+      kept = c.in_ok-keep_commands.ensures.kept ∙ (λ i. (h.kept ∙ (λ j. cond (all j) h.gone [])) i ++ now) ∙ sym (λ j. cond (all j) (h.gone ++ now) []);
     }

@@ -23,8 +23,8 @@ returns-clause-tried g c = λ holes layer tried was.
         ready = c.requires.ready;
         size = ap length marks ∙ (c.try_pads.auto.marks ∙ (ap length c.deref_mut-2.ensures.value ∙ c.requires.size));
         open_nodes = ap length opened ∙ (c.try_pads.auto.open_nodes ∙ (ap length c.deref_mut.ensures.value ∙ c.requires.open_nodes));
-        closed = subst (λ (ms : List Bool). AreClosedUnmarked cells.x cells.y cells.spots index.nodes.items (with_items c.args.self.now.open_nodes c.try_pads.new.open_nodes).items ms) (sym marks)
-            (subst (λ (os : List Bool). AreClosedUnmarked cells.x cells.y cells.spots index.nodes.items os now) (sym opened) c.try_pads.ensures.closed);
+        closed = subst (λ (ms : List Bool). AreClosedUnmarked index.cells.nodes.items (with_items c.args.self.now.open_nodes c.try_pads.new.open_nodes).items ms) (sym marks)
+            (subst (λ (os : List Bool). AreClosedUnmarked index.cells.nodes.items os now) (sym opened) c.try_pads.ensures.over.closed);
       };
       same_layer = was.same_layer;
       marks = subst (λ (ms : List Bool). AreMarkedBy (is_ring_finding (λ covering. covering) c.args.index.now.rules.profile c.args.index.now.rules.ring layer (tried ++ map g.S.PadShape.covers c.args.more.now)) holes index ms) (sym marks)

@@ -8,7 +8,4 @@ returns-then-is_small-clause-tried g c = λ i h marked.
     let index : RingIndex = c.args.self.now.index.now in
     let hole = (spot_at c.args.self.now.index.now.cells.spots i).hole in
     fails (gives_ring_at g.S.PadShape.covers index c.args.self.now.pad.now i) (λ gives.
-    c.try_rows.ensures.tried i h (c.range_of-range.ensures.holds (point_at index.cells.spots i) (hole.radius + index.rules.ring) (c.requires.ready.grid.reach i h) (given_from g.S.PadShape.covers index.rules.profile index.rules.ring hole c.args.self.now.pad.now gives)) marked)
-
-pub returns-else-is_small-clause-tried : goal.returns-else-is_small-clause-tried
-returns-else-is_small-clause-tried g c = λ i h marked. c.try_tree.ensures.tried i h (c.requires.ready.tree.whole (point_at c.args.self.now.index.now.cells.spots i)) marked
+    c.try_rows.ensures.tried i h (c.range_of-range.ensures.holds (point_at index.cells.spots i) (hole.radius + index.rules.ring) (c.requires.ready.reach i h) (given_from g.S.PadShape.covers index.rules.profile index.rules.ring hole c.args.self.now.pad.now gives)) marked)
