@@ -33,13 +33,13 @@ fn leading_coordinate<'a>(
     let Some((first, tail)) = bytes.split_first() else {
         return (None, bytes);
     };
-    let (run, rest) = tail.split_at(number_run_len(tail));
-    if *first != letter || run.len() > 16 {
+    if *first != letter {
         return (None, bytes);
     }
+    let (run, rest) = tail.split_at(number_run_len(tail));
     match coordinate_of(settings, run) {
-        Ok(value) => (Some(value), rest),
-        Err(_) => (None, bytes),
+        Ok(value) if run.len() <= 16 => (Some(value), rest),
+        _ => (None, bytes),
     }
 }
 

@@ -14,6 +14,6 @@ returns-in-Ok c =
         whole = sym (take-append-drop c.number_run_len.result tail) ∙ (λ i. sym cut.front i ++ sym cut.back i);
         numbers = ap (list_all is_number_char) (cut.front ∙ ap (λ n. take n tail) c.number_run_len.ensures.len) ∙ run_passes is_number_char tail;
         reads = sym c.coordinate_of.ensures ∙ c.in-Ok.is;
-        short = omega (arith, c.if-run-gt16.false);
+        short = omega (arith, c.if-run-le16.true);
       },
     )
