@@ -12,11 +12,14 @@ Each row is one thing that other tools write; `--rows NAME,NAME` takes some of t
     end-of-route-m17      `M17` where `M16` is due at the end of a route
     defined-twice-alike   an aperture or a tool that is defined again just as before
     pair-after-flash      a coordinate without an operation repeats the last one, a flash or a move too
-    old-words             words of older texts that say nothing, or end the text
+    code-word             `ICAS` between two `%`, an older word for the code of the text, which says nothing
+    drill-words           words of older drill files that say nothing, and comments after the end
+    layer-words           other words of older layers that say nothing, or end the text
     repeated-hits         `R` with a count and a step, after a hit
     said-by-the-user      a manifest that names the unit, the digits and the zeros of a drill file
     all-primitives        a macro has the shapes of all its primitives, each in turn as the first
-    polygons              a regular polygon is at least the disc inside of it
+    polygons              a regular polygon of a macro is at least the disc inside of it, where the macro is turned by quarters
+    polygon-apertures     so is a flash of the standard polygon aperture
     turned                what is turned is at least its centre disc, and a rectangle turned by 45 degrees is judged exactly
 
 The slow program is oracle_wide.py in the folder of --oracle, which is not in this repository and knows none of these rows. This script adds them to it,
@@ -30,7 +33,6 @@ import math
 import os
 import random
 import re
-import subprocess
 import sys
 import tempfile
 from typing import NamedTuple
@@ -38,8 +40,8 @@ from typing import NamedTuple
 import wide_packages as wide
 from wide_packages import MM, STEP, mm
 
-TEXT_ROWS = ["several-in-one-pair", "end-of-route-m17", "defined-twice-alike", "pair-after-flash", "old-words", "repeated-hits", "said-by-the-user"]
-COPPER_ROWS = ["all-primitives", "polygons", "turned"]
+TEXT_ROWS = ["several-in-one-pair", "end-of-route-m17", "defined-twice-alike", "pair-after-flash", "code-word", "drill-words", "layer-words", "repeated-hits", "said-by-the-user"]
+COPPER_ROWS = ["all-primitives", "polygons", "polygon-apertures", "turned"]
 ROWS = TEXT_ROWS + COPPER_ROWS
 
 ONE = 10**8  # of a value of a macro
@@ -232,7 +234,7 @@ class Slow:
         if item.startswith(b"%"):
             return self.spell_pair(item)
         word = item[:-1]
-        if word == b"M00" and "old-words" in self.rows:
+        if word == b"M00" and "layer-words" in self.rows:
             return [self.o.Finish()]
         if last in ("Flash", "Move") and "pair-after-flash" in self.rows and b"%" not in word:
             shape = self.o.OPERATE_WORD.fullmatch(word)
@@ -253,9 +255,9 @@ class Slow:
         return commands
 
     def spell_piece(self, item):
-        if "old-words" in self.rows:
-            if item == b"%ICAS*%":
-                return []
+        if item == b"%ICAS*%" and "code-word" in self.rows:
+            return []
+        if "layer-words" in self.rows:
             numbered = NUMBERED_FORMAT.fullmatch(item)
             if numbered:
                 item = b"%FSLA" + numbered[1] + b"*%"
@@ -265,7 +267,7 @@ class Slow:
         """The items; with the old words `M00` ends a text as `M02` does."""
         shape = self.cut_before(text)
         for at, (byte, item) in enumerate(shape.items):
-            if item == b"M00*" and "old-words" in self.rows:
+            if item == b"M00*" and "layer-words" in self.rows:
                 return self.o.Cut(shape.items[: at + 1], True, text.index(b"*", byte) + 1)
         return shape
 
@@ -325,7 +327,7 @@ class Slow:
         if any(size > 0 for size in self.o.hole_sizes(template)):
             return []
         sizes = [before.dec_pm(size) for size in self.o.outer_sizes(template)]
-        if template.letter == b"P" and "polygons" in self.rows:
+        if template.letter == b"P" and "polygon-apertures" in self.rows:
             return self.disc_inside(template.sizes[1] // ONE, sizes[0])
         if template.letter in (b"R", b"O") and "turned" in self.rows and before.turn % QUARTER != 0:
             if template.letter == b"O":
@@ -372,7 +374,7 @@ class Slow:
         """The shapes about (0, 0) of a macro by the first of its primitives; pm is the length of 10^-8."""
         first = order[0]
         if isinstance(first, Polygon):
-            return self.disc_inside(first.corners, first.diameter * pm)
+            return self.disc_inside(first.corners, first.diameter * pm) if turn % QUARTER == 0 or "turned" in self.rows else []
         if isinstance(first, Tilted):
             angle = first.rotation if mirror in (b"N", b"XY") else -first.rotation
             return [self.turned_rectangle(first.width * pm, first.height * pm, angle + turn)]
@@ -581,7 +583,7 @@ class DrillReader:
             self.ends = point if due is None else self.ends + point
             self.route = "start" if due is None else "up"
             return []
-        if "old-words" in self.rows and self.is_old(line):
+        if "drill-words" in self.rows and self.is_old(line):
             return []
         if self.before.part == "before":
             return self.commands_before(line)
@@ -903,7 +905,7 @@ def put_all(rng, layer, hole, ring):
     put(rng, layer, layer.macro(parts), place, turn, mirror, rng.choice(["1"] * 40 + ["1.1"]))
 
 
-PADS = {"all-primitives": put_all, "polygons": put_polygon, "turned": put_turned}
+PADS = {"all-primitives": put_all, "polygons": put_polygon, "polygon-apertures": put_polygon, "turned": put_turned}
 
 
 def in_inches(rng):
@@ -1029,8 +1031,14 @@ def old_words_in_layer(rng, lines):
         lines[at] = rng.choice(["%FSLAN2G2X46Y46D2M2*%"] * 14 + ["%FSLAN2X46Y46*%", "%FSLAN22G2X46Y46D2M2*%", "%FSLAN2G2X46Y45D2M2*%", "%FSLAN2G2X46Y46D2M*%", "%FSTAN2G2X46Y46D2M2*%", "%FSLIN2G2X46Y46D2M2*%", "%FSLAG2N2X46Y46D2M2*%", "%FSLAN0G0X46Y46D0M0*%"])
     if rng.random() < 0.4:
         lines[-1] = rng.choice(["M00*"] * 9 + ["M00*\nM02*", "M00*\n*\n", "M00*%", "M00* ", "M0*", "M01*", "M00", "M00*M00*"])
-    for _ in range(rng.choice([0, 1, 1])):
-        lines.insert(rng.randrange(len(lines)), rng.choice(["%ICAS*%"] * 14 + ["%ICAX*%", "%ICAS*ICAS*%", "%IC*%", "M00*", "ICAS*", "%ICASAXBY*%", "G36*\n%ICAS*%\nG37*"]))
+    if rng.random() < 0.1:
+        lines.insert(rng.randrange(len(lines)), "M00*")
+    return lines
+
+
+def code_word(rng, lines):
+    for _ in range(rng.choice([1, 1, 2])):
+        lines.insert(rng.randrange(len(lines)), rng.choice(["%ICAS*%"] * 14 + ["%ICAX*%", "%ICAS*ICAS*%", "%IC*%", "ICAS*", "%ICASAXBY*%", "%LPD*ICAS*%", "G36*\n%ICAS*%\nG37*"]))
     return lines
 
 
@@ -1138,8 +1146,8 @@ def in_digits(rng, line, format_of, zeros):
     return re.sub(r"([XY])(-?[0-9]+\.[0-9]+)", digits, line) if line.startswith(("X", "Y", "G0")) else line
 
 
-LAYER_TEXTS = {"several-in-one-pair": several_in_one, "defined-twice-alike": twice_in_layer, "old-words": old_words_in_layer, "pair-after-flash": pair_after_flash}
-DRILL_TEXTS = {"end-of-route-m17": routes_m17, "defined-twice-alike": twice_in_drill, "old-words": old_words_in_drill}
+LAYER_TEXTS = {"several-in-one-pair": several_in_one, "code-word": code_word, "defined-twice-alike": twice_in_layer, "layer-words": old_words_in_layer, "pair-after-flash": pair_after_flash}
+DRILL_TEXTS = {"end-of-route-m17": routes_m17, "defined-twice-alike": twice_in_drill, "drill-words": old_words_in_drill}
 
 
 def put_one(rng, layer, hole, row, ring, disc):
@@ -1163,7 +1171,7 @@ def put_one(rng, layer, hole, row, ring, disc):
 
 def package(rng, row):
     """The files of a package at the border of a row by their names, and the words of its rules."""
-    if row == "polygons" and rng.random() < 0.2:
+    if row in ("polygons", "polygon-apertures") and rng.random() < 0.2:
         return rng.choice([in_inches, in_inches, great])(rng)
     ring, gap = rng.choice([0, 100_000_000, 125_000_000, 127_000_000]), rng.choice([100_000_000, 250_000_000])
     holes, files, rows = wide.make_holes(rng), {}, ["role,name,file"]
@@ -1222,24 +1230,13 @@ def answer(slow, rules, folder):
 
 def compare(program, oracle, rows, seed, count):
     """The program beside the slow program with the rows, `count` packages for each."""
-    slow, differ = Slow(oracle, rows), 0
-    with tempfile.TemporaryDirectory() as folder:
-        for row in rows:
-            statuses, differs = {}, 0
-            for number in range(1, count + 1):
-                clear_folder(folder)
-                files, rules = package_of(seed, number, row)
-                wide.write(files, rules, folder)
-                text, status, _ = answer(slow, rules, folder)
-                statuses[status] = statuses.get(status, 0) + 1
-                if program:
-                    ran = subprocess.run([program, "check", "--profile", "wide", *rules, "m.csv"], cwd=folder, stdout=subprocess.PIPE, check=False)
-                    if (ran.stdout, ran.returncode) != (text, status):
-                        differs += 1
-                        print(f"differs: seed {seed}, {row}, package {number}: {ran.returncode} {ran.stdout[-200:]!r} in place of {status} {text[-200:]!r}")
-            print(f"{row}: {count} packages, {differs} differ; statuses of the slow program: {dict(sorted(statuses.items()))}")
-            differ += differs
-    return 1 if differ else 0
+    slow = Slow(oracle, rows)
+
+    def compare_row(row):
+        packages = (package_of(seed, number, row) for number in range(1, count + 1))
+        return wide.compare(program, f"seed {seed}, {row}", packages, lambda *asked: answer(slow, *asked)[:2])
+
+    return max([compare_row(row) for row in rows])
 
 
 def lacks(report):

@@ -303,22 +303,22 @@ def fault_name(folder, index):
         return it.read().split("\n")[1 + index].split(",")[1]
 
 
-def compare(program, oracle, seed, count):
-    differ, statuses = 0, {}
+def compare(program, said, packages, answer):
+    """The program beside a slow program: `answer` gives what that prints of a package in a folder by its rules, and its status."""
+    differ, statuses, number = 0, {}, 0
     with tempfile.TemporaryDirectory() as folder:
-        for number in range(1, count + 1):
-            files, rules = package(random.Random(f"{seed}/{number}"))
+        for number, (files, rules) in enumerate(packages, 1):
             for old in os.listdir(folder):
                 os.remove(os.path.join(folder, old))
             write(files, rules, folder)
-            text, status = expected(oracle, rules, folder)
+            text, status = answer(rules, folder)
             statuses[status] = statuses.get(status, 0) + 1
             if program:
                 ran = subprocess.run([program, "check", "--profile", "wide", *rules, "m.csv"], cwd=folder, stdout=subprocess.PIPE, check=False)
                 if (ran.stdout, ran.returncode) != (text, status):
                     differ += 1
-                    print(f"differs: seed {seed}, package {number}: {ran.returncode} {ran.stdout[-200:]!r} in place of {status} {text[-200:]!r}")
-    print(f"{count} packages, {differ} differ; statuses of the slow program: {dict(sorted(statuses.items()))}")
+                    print(f"differs: {said}, package {number}: {ran.returncode} {ran.stdout[-200:]!r} in place of {status} {text[-200:]!r}")
+    print(f"{said}: {number} packages, {differ} differ; statuses of the slow program: {dict(sorted(statuses.items()))}", flush=True)
     return 1 if differ else 0
 
 
@@ -391,7 +391,8 @@ def main():
     sys.path.insert(0, given.oracle)
     import oracle_wide  # pylint: disable=import-outside-toplevel,import-error
 
-    return compare(None if given.target == "-" else given.target, oracle_wide, given.seed, given.count)
+    packages = (package(random.Random(f"{given.seed}/{number}")) for number in range(1, given.count + 1))
+    return compare(None if given.target == "-" else given.target, f"seed {given.seed}", packages, lambda *asked: expected(oracle_wide, *asked))
 
 
 if __name__ == "__main__":

@@ -3,10 +3,10 @@ use Rattle.std.proofs.Common.{◌≡◌, ℕ, suc, ◌+◌, Bool, true, false, c
 use Rattle.std.specs.Prelude.{take_while}
 use Rattle.std.specs.Str.{bytes_eq}
 use Rattle.std.specs.List.{list_all, list_any, prefix_len, before_first, after_first}
-use Rattle.std.proofs.lemmas.Bool.{eqb-true}
 use Rattle.std.proofs.lemmas.Bool.Decides.{nat_tests}
 use Rattle.std.proofs.lemmas.List.{take-append-drop}
 use Rattle.std.proofs.lemmas.List.Sums.{take_while-cons}
+use Rattle.std.proofs.lemmas.Slice.Eq.{bytes_eq-Decides}
 use Rattle.grid_units.specs.declared.fault.Reason.{Reason}
 use Rattle.grid_units.specs.declared.fault.Reason.TheVariants.{BadNumber, TooFar, TooFine}
 use Rattle.grid_units.specs.declared.zero_filling.Zeros.{Zeros}
@@ -22,10 +22,7 @@ use Rattle.grid_units.proofs.SpellingsLemmas.{digit_number}
 
 -- bytes that a test finds equal
 pub bytes_are : (xs ys : List ℕ) → bytes_eq xs ys ≡ true → xs ≡ ys
-bytes_are [] [] h = refl
-bytes_are [] (y ∷ ys) h = absurd cc
-bytes_are (x ∷ xs) [] h = absurd cc
-bytes_are (x ∷ xs) (y ∷ ys) h = let k = both_true (eqb x y) (bytes_eq xs ys) h in λ i. eqb-true x y k.0 i ∷ bytes_are xs ys k.1 i
+bytes_are xs ys = (bytes_eq-Decides xs ys).0
 
 -- a line that begins so is this beginning and what follows it
 pub begins_so : (prefix line rest : List ℕ) → strip_prefix prefix line ≡ Some rest → line ≡ prefix ++ rest

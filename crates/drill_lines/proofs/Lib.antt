@@ -11,4 +11,3 @@ pub mod WrittenFields
 pub mod Written
 pub mod Answered
 pub mod RouteLemmas
-pub mod RouteReads

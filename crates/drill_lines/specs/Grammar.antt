@@ -1,5 +1,4 @@
--- Which bytes a line of a drill file has for each command: the grammar of drill lines (docs/FORMATS.md, Drill lines).
--- `Meaning` says why any other line is refused, and answers exactly what is so written.
+-- Which bytes a line of a drill file has for each command: the grammar of drill lines (docs/FORMATS.md, Drill lines). `Meaning` answers just these.
 use Rattle.std.specs.Prelude.{◌≡◌, ◌≢◌, ◌≤◌, ℕ, ℤ, ◌||◌, ◌==◌, IsTrue, IsFalse, List, [], ◌∷◌, ◌++◌, take, Option, None, Some, is_some, IfSome, Ok, codes}
 use Rattle.std.specs.List.{Contains, list_all, list_any}
 use Rattle.grid_units.specs.declared.lengths.Unit.{Unit as Units}

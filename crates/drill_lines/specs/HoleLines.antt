@@ -34,8 +34,7 @@ format_in settings = unwrap_or settings.format (default_format settings.unit)
 abbrev pub zeros_in : Settings → Zeros
 zeros_in settings = unwrap_or settings.zeros Full
 
--- a coordinate: with a point a decimal, without one filled up by the zeros and the format: `00254` with `LZ` and 3:3 is 2.54
--- (docs/FORMATS.md, Coordinates of a drill file)
+-- a coordinate: a decimal with a point, or filled up: `00254` with `LZ` and 3:3 is 2.54 (docs/FORMATS.md, Coordinates of a drill file)
 unfoldable pub coordinate_of : Settings → List ℕ → Result ℤ Reason
 coordinate_of settings run = if list_any is_point run then parse_decimal run else parse_zero_filled run (format_in settings).whole (format_in settings).decimals (zeros_in settings)
 

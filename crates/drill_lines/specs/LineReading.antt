@@ -1,5 +1,5 @@
 -- What a reader of lines answers: what a line spells in its profile, after the lines that it has read.
-use Rattle.std.specs.Prelude.{◌≡◌, ℕ, false, List, [], ◌∷◌, ◌++◌, Option, Some, None, Result, Ok, Err}
+use Rattle.std.specs.Prelude.{◌≡◌, ℕ, List, [], ◌∷◌, ◌++◌, Option, Some, None, Result, Ok, Err}
 use Rattle.grid_units.specs.declared.item_fail.ItemFail.{ItemFail}
 use Rattle.grid_units.specs.Results.{IsRefusedAs}
 use Rattle.drill_lines.specs.declared.command.Settings.{Settings}
@@ -7,6 +7,7 @@ use Rattle.drill_lines.specs.declared.command.DrillCommand.{DrillCommand}
 use Rattle.grid_units.specs.declared.profile.Profile.{Profile}
 use Rattle.grid_units.specs.declared.profile.Profile.TheVariants.{Strict, Wide}
 use Rattle.drill_lines.specs.declared.line_reader.LineReader.{LineReader}
+use Rattle.drill_lines.specs.declared.route.Machine.TheVariants as machine
 use Rattle.drill_lines.specs.declared.route.Route.{Route}
 use Rattle.drill_lines.specs.declared.route.Route.TheVariants as route
 use Rattle.drill_lines.specs.Routes.{meaning_in}
@@ -14,7 +15,7 @@ use Rattle.drill_lines.specs.Inner.RouteSteps.{IsRouteAfter}
 
 -- in this profile the route has come so far after these lines; in the strict one none ever begins
 abbrev pub IsRouteIn : Profile → Route → Settings → List (List ℕ) → Type 0
-IsRouteIn Strict r settings earlier = r ≡ route.Free false
+IsRouteIn Strict r settings earlier = r ≡ route.Free machine.Drilling
 IsRouteIn Wide r settings earlier = IsRouteAfter r settings earlier
 
 -- the reader reads in this profile, has read these lines, and the next one stands under these settings

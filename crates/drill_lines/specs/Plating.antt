@@ -1,5 +1,4 @@
--- What a comment says of holes: of those of the tools that are defined after it, or of all holes of the file (docs/FORMATS.md, Mixed drill files;
--- Unplated drill files).
+-- What a comment says of the holes of the tools after it, or of all holes of the file (docs/FORMATS.md, Mixed drill files; Unplated drill files).
 use Rattle.std.specs.Prelude.{ℕ, Bool, true, false, ◌||◌, ◌==◌, List, length, take, drop, codes, if◌then◌else◌, Option, Some, None}
 use Rattle.std.specs.List.{after_first, before_first, prefix_len}
 use Rattle.std.specs.Str.{bytes_eq}
@@ -34,8 +33,7 @@ attribute_plating text =
     else if bytes_eq (before_first is_comma text) (codes "#@! TA.AperFunction") then Some (function_plating (before_first is_comma (after_first is_comma text)))
     else None
 
--- what the text of a comment says of the tools after it: `TYPE=PLATED` that their holes are plated, `TYPE=NON_PLATED` that they are
--- not, an attribute what it says. None of a comment that says nothing of it
+-- what the text of a comment says of the tools after it, if anything: `TYPE=PLATED` that their holes are plated, `TYPE=NON_PLATED` that they are not
 unfoldable pub said_plating : List ℕ → Option Plating
 said_plating text =
     if bytes_eq text (codes "TYPE=PLATED") then Some Plated

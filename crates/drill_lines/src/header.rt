@@ -1,37 +1,18 @@
 //! The units, the zeros and the formats of a header.
 
-ghost use Rattle.std.specs.Prelude.{◌≡◌, ◌≤◌, ◌==◌, length, drop};
-ghost use Rattle.std.specs.List.{list_all, prefix_len};
+ghost use Rattle.std.specs.Prelude.{◌≡◌};
+ghost use Rattle.std.specs.List.{list_all};
 ghost use Rattle.grid_units.specs.Numbers.{is_number_char};
 ghost use Rattle.drill_lines.specs.Header.{is_zero, is_digit_count, digit_counts, pattern, pattern_from, unit_format, unit_line, is_format_digit, parse_format, file_format};
 
 use crate::command::{DrillCommand, DrillFormat};
-use grid_units::numbers::is_number_char;
+use grid_units::numbers::{is_number_char, repeat_len};
 use grid_units::{Reason, Unit, Zeros};
-
-fn is_zero(byte: u8) -> bool
-    ensures { result ≡ is_zero byte }
-{
-    byte == b'0'
-}
-
-/// How many zeros stand at the start.
-fn zeros_len(run: &[u8]) -> usize
-    ensures within { result ≤ length run.now }
-    ensures len { result ≡ prefix_len is_zero run.now }
-{
-    for (i, byte) in run.iter().enumerate() {
-        if !is_zero(*byte) {
-            return i;
-        }
-    }
-    run.len()
-}
 
 fn are_zeros(run: &[u8]) -> bool
     ensures { result ≡ list_all is_zero run.now }
 {
-    run.iter().all(|byte| is_zero(*byte))
+    run.iter().all(|byte| *byte == b'0')
 }
 
 fn is_digit_count(count: usize) -> bool
@@ -67,7 +48,7 @@ fn pattern_from(whole: usize, rest: &[u8]) -> Result<DrillFormat, Reason>
 fn pattern(run: &[u8]) -> Result<DrillFormat, Reason>
     ensures { result ≡ pattern run.now }
 {
-    let (zeros, rest) = run.split_at(zeros_len(run));
+    let (zeros, rest) = run.split_at(repeat_len(b'0', run));
     pattern_from(zeros.len(), rest)
 }
 
@@ -130,8 +111,5 @@ fn parse_format(text: &[u8]) -> Option<DrillFormat>
 pub fn file_format(text: &[u8]) -> Option<DrillFormat>
     ensures { result ≡ file_format text.now }
 {
-    match text.strip_prefix(b"FILE_FORMAT=".as_slice()) {
-        Some(rest) => parse_format(rest),
-        None => None,
-    }
+    parse_format(text.strip_prefix(b"FILE_FORMAT=".as_slice())?)
 }

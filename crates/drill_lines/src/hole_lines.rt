@@ -106,7 +106,7 @@ pub(crate) fn point_line(settings: &Settings, line: &[u8]) -> Option<Result<Coor
 }
 
 /// A slot from a point, by what follows its `G85`.
-#[tactic(auto, unfolding(crate::specs::HoleLines::slot_line))]
+#[tactic(auto, unfolding(crate::specs::HoleLines::slot_line, crate::specs::HoleLines::point_line))]
 fn slot_line(
     settings: &Settings,
     x: Option<&[u8]>,
@@ -115,16 +115,13 @@ fn slot_line(
 ) -> Result<DrillCommand, Reason>
     ensures { result ≡ slot_line settings.now (record { x = option_copied x.entry; y = option_copied y.entry }) line.now }
 {
-    let (to_x, rest) = field(b'X', line);
-    let (to_y, rest) = field(b'Y', rest);
-    if (to_x.is_none() && to_y.is_none()) || !rest.is_empty() {
-        return Err(Reason::BadLine);
+    match point_line(settings, line) {
+        Some(to) => {
+            let (from, to) = both(coordinates(settings, x, y), to)?;
+            Ok(DrillCommand::Slot(from, to))
+        }
+        None => Err(Reason::BadLine),
     }
-    let (from, to) = both(
-        coordinates(settings, x, y),
-        coordinates(settings, to_x, to_y),
-    )?;
-    Ok(DrillCommand::Slot(from, to))
 }
 
 /// A hit or a slot, by what follows its first point: nothing, or `G85` and a second point.

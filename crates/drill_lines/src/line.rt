@@ -201,6 +201,16 @@ fn begins_comment(part: Part, first: u8) -> bool
     }
 }
 
+/// A reading that is refused as that of an item.
+pub(crate) fn as_item<T: Drop>(read: Result<T, Reason>) -> Result<T, ItemFail>
+    ensures { Gives result read }
+{
+    match read {
+        Ok(value) => Ok(value),
+        Err(reason) => Err(ItemFail::Refused(reason)),
+    }
+}
+
 /// The command that a line without blanks at its end spells, if it spells one.
 #[tactic(auto, unfolding(crate::specs::Meaning::meaning))]
 pub(crate) fn read_trimmed(
@@ -217,10 +227,7 @@ pub(crate) fn read_trimmed(
         let text = Text::from_slice(alloc, text)?;
         return Ok(Some(DrillCommand::Comment(text)));
     }
-    match line_in(settings, line) {
-        Ok(command) => Ok(command),
-        Err(reason) => Err(ItemFail::Refused(reason)),
-    }
+    as_item(line_in(settings, line))
 }
 
 /// The command that a line spells, if it spells one. Blanks at its end are dropped.

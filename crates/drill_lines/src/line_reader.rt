@@ -1,10 +1,10 @@
 //! A reader of the lines of a drill file, one after the other, in a profile.
 
-ghost use Rattle.std.specs.Prelude.{◌≡◌, true, false, ℕ, List};
+ghost use Rattle.std.specs.Prelude.{◌≡◌, true, ℕ, List};
 
 use crate::command::{DrillCommand, Settings};
 use crate::line::{read_line, trimmed_len};
-use crate::route::{Route, route_step};
+use crate::route::{Machine, Route, route_step};
 use grid_units::{ItemFail, Profile};
 use std::alloc::Global;
 
@@ -21,6 +21,7 @@ impl LineReader {
     ghost use Rattle.drill_lines.specs.declared.command.Settings.{Settings as TheSettings};
     ghost use Rattle.grid_units.specs.declared.profile.Profile.{Profile as TheProfile};
     ghost use Rattle.grid_units.specs.declared.profile.Profile.TheVariants as profile;
+    ghost use Rattle.drill_lines.specs.declared.route.Machine.TheVariants as machine;
     ghost use Rattle.drill_lines.specs.declared.route.Route.TheVariants as route;
     ghost use Rattle.drill_lines.specs.Lines.{without_end_blanks};
     ghost use Rattle.drill_lines.specs.LineReading.{HasReadLines, ReadsLine};
@@ -32,15 +33,15 @@ impl LineReader {
         LineReader {
             alloc,
             profile,
-            route: Route::Free(false),
+            route: Route::Free(Machine::Drilling),
         }
     }
 
-    /// Whether a hit may stand in the next line: no line of a route is due, and the machine does not route.
+    /// Whether a hit may stand in the next line: no line of a route is due, and the machine drills.
     pub fn may_drill(&self) -> bool
-        ensures { result ≡ true → self.now.route ≡ route.Free false }
+        ensures { result ≡ true → self.now.route ≡ route.Free machine.Drilling }
     {
-        matches!(self.route, Route::Free(false))
+        matches!(self.route, Route::Free(Machine::Drilling))
     }
 
     /// The command that the next line spells, if it spells one. Blanks at its end are dropped.

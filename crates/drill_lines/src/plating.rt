@@ -2,6 +2,7 @@
 
 ghost use Rattle.std.specs.Prelude.{◌≡◌, drop};
 ghost use Rattle.std.specs.List.{after_first, before_first, prefix_len};
+ghost use Rattle.std.specs.Str.{bytes_eq};
 ghost use Rattle.drill_lines.specs.Plating as says;
 ghost use Rattle.drill_lines.specs.Plating.{is_comma, is_space, said_plating, says_plated, says_unplated};
 
@@ -37,12 +38,15 @@ fn before_comma(text: &[u8]) -> &[u8]
 fn after_comma(text: &[u8]) -> &[u8]
     ensures { result.now ≡ after_first is_comma text.now }
 {
-    let at = len_before(b',', text);
-    if at < text.len() {
-        &text[at + 1..]
-    } else {
-        &[]
-    }
+    let start = text.len().min(len_before(b',', text) + 1);
+    &text[start..]
+}
+
+/// Whether the bytes before the first comma are this name. Few texts begin so, and no other one is searched for a comma.
+fn is_named(name: &[u8], text: &[u8]) -> bool
+    ensures { result ≡ bytes_eq (before_first is_comma text.now) name.now }
+{
+    begins(name, text) && before_comma(text) == name
 }
 
 /// What the word of an aperture function says: `Plated`, `NonPlated` or another.
@@ -71,7 +75,7 @@ fn attribute_plating(text: &[u8]) -> Option<Plating>
 {
     if takes_back(text) {
         Some(Plating::Unsaid)
-    } else if before_comma(text) == b"#@! TA.AperFunction".as_slice() {
+    } else if is_named(b"#@! TA.AperFunction", text) {
         Some(function_plating(before_comma(after_comma(text))))
     } else {
         None
@@ -97,9 +101,8 @@ pub fn said_plating(text: &[u8]) -> Option<Plating>
 fn file_plating(text: &[u8]) -> Option<Plating>
     ensures { result ≡ says.file_plating text.now }
 {
-    let (name, word) = (before_comma(text), before_comma(after_comma(text)));
-    if name == b"#@! TF.FileFunction".as_slice() {
-        Some(function_plating(word))
+    if is_named(b"#@! TF.FileFunction", text) {
+        Some(function_plating(before_comma(after_comma(text))))
     } else {
         None
     }

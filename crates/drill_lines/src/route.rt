@@ -1,27 +1,38 @@
-//! Routed slots: four lines right after one another that spell one slot.
+//! Routed slots: four lines right after one another that spell one slot. And words of older texts.
 
-ghost use Rattle.std.specs.Prelude.{◌≡◌, ◌∷◌, [], ◌++◌, codes};
+ghost use Rattle.std.specs.Prelude.{◌≡◌, ◌∷◌, [], ◌++◌, codes, unwrap_or};
 ghost use Rattle.std.specs.Str.{bytes_eq};
 ghost use Rattle.grid_units.specs.Results.{Gives};
-ghost use Rattle.drill_lines.specs.Routes.{routed_point, is_hole};
-ghost use Rattle.drill_lines.specs.Inner.RouteSteps.{second_step, third_step, fourth_step, wide_step, due_step, other_step, routes, route_step};
+ghost use Rattle.drill_lines.specs.Routes.{raises, routed_point, machine_set, says_nothing, may_stand, is_hole};
+ghost use Rattle.drill_lines.specs.Inner.RouteSteps.{second_step, third_step, fourth_step, part_step, other_step, route_step};
+ghost use Rattle.drill_lines.specs.declared.route.Route.TheVariants as route;
 
 use crate::command::{Coordinates, DrillCommand, Part, Settings};
 use crate::hole_lines::point_line;
-use crate::line::read_trimmed;
+use crate::line::{as_item, begins, read_trimmed};
 use grid_units::{ItemFail, Reason};
 use std::alloc::Global;
+
+/// What the machine does where no line of a route is due.
+#[derive(Clone, Copy)]
+pub(crate) enum Machine {
+    Drilling,
+    /// Since the last line of a route, up to the next `G05`.
+    Routing,
+    /// Since an `M00`.
+    Stopped,
+}
 
 /// How far a route has come.
 #[derive(Clone, Copy)]
 pub(crate) enum Route {
-    /// No line of a route is due. Whether the machine routes: since an `M16`, up to the next `G05`.
-    Free(bool),
+    /// No line of a route is due.
+    Free(Machine),
     /// After `G00` and this point, `M15` is due.
     Started(Coordinates),
     /// After `M15`, `G01` and a point are due. The route began at this point.
     Lowered(Coordinates),
-    /// After `G01` and the second point, `M16` is due.
+    /// After `G01` and the second point, `M16` or `M17` is due.
     Cut(Coordinates, Coordinates),
 }
 
@@ -36,10 +47,7 @@ fn routed_point(
 ) -> Option<Result<Coordinates, Reason>>
     ensures { result ≡ routed_point word.now settings.now line.now }
 {
-    match line.strip_prefix(word) {
-        Some(rest) => point_line(settings, rest),
-        None => None,
-    }
+    point_line(settings, line.strip_prefix(word)?)
 }
 
 /// Reads `M15` after the first line of a route.
@@ -64,24 +72,54 @@ fn third_step(from: Coordinates, settings: &Settings, line: &[u8]) -> Result<Ste
     }
 }
 
-/// Reads `M16` after the third line of a route.
+/// Whether the machine raises its tool, with its clamp or without it.
+fn raises(line: &[u8]) -> bool
+    ensures { result ≡ raises line.now }
+{
+    line == b"M16".as_slice() || line == b"M17".as_slice()
+}
+
+/// Reads `M16`, or `M17`, after the third line of a route.
 fn fourth_step(from: Coordinates, to: Coordinates, line: &[u8]) -> Result<Step, Reason>
     ensures { result ≡ fourth_step from to line.now }
 {
-    if line == b"M16".as_slice() {
-        Ok((Some(DrillCommand::Slot(from, to)), Route::Free(true)))
+    if raises(line) {
+        let slot = DrillCommand::Slot(from, to);
+        Ok((Some(slot), Route::Free(Machine::Routing)))
     } else {
         Err(Reason::Routed)
     }
 }
 
+/// Whether a line is one of older texts that says nothing: `R,H` and `G93X0Y0`, `M00`, or a comment after the end.
+fn says_nothing(part: Part, line: &[u8]) -> bool
+    ensures { result ≡ says_nothing part line.now }
+{
+    match part {
+        Part::Before => false,
+        Part::Header => line == b"R,H".as_slice() || line == b"G93X0Y0".as_slice(),
+        Part::Body => line == b"M00".as_slice() || line == b"G93X0Y0".as_slice(),
+        Part::After => begins(b";", line),
+    }
+}
+
+/// Whether a line may stand where the machine does this: after `M00` only an empty one, `M30` or a comment.
+fn may_stand(now: Machine, line: &[u8]) -> bool
+    ensures { result ≡ may_stand now line.now }
+{
+    match now {
+        Machine::Stopped => line.is_empty() || line == b"M30".as_slice() || begins(b";", line),
+        Machine::Drilling | Machine::Routing => true,
+    }
+}
+
 /// Reads a line that the strict profile refuses: `M30` before `M48`, and in the body `G00` and a point.
-fn wide_step(routing: bool, settings: &Settings, line: &[u8]) -> Option<Result<Step, Reason>>
-    ensures { result ≡ wide_step routing settings.now.part settings.now line.now }
+fn part_step(next: Machine, settings: &Settings, line: &[u8]) -> Option<Result<Step, Reason>>
+    ensures { result ≡ part_step next settings.now.part settings.now line.now }
 {
     match settings.part {
         Part::Before if line == b"M30".as_slice() => {
-            Some(Ok((Some(DrillCommand::Finish), Route::Free(routing))))
+            Some(Ok((Some(DrillCommand::Finish), Route::Free(next))))
         }
         Part::Body => match routed_point(b"G00", settings, line) {
             Some(Ok(from)) => Some(Ok((None, Route::Started(from)))),
@@ -89,18 +127,6 @@ fn wide_step(routing: bool, settings: &Settings, line: &[u8]) -> Option<Result<S
             None => None,
         },
         Part::Before | Part::Header | Part::After => None,
-    }
-}
-
-/// Reads a line by how far the route has come; `None` where it is read as in the strict profile.
-fn due_step(route: Route, settings: &Settings, line: &[u8]) -> Option<Result<Step, Reason>>
-    ensures { result ≡ due_step route settings.now line.now }
-{
-    match route {
-        Route::Free(routing) => wide_step(routing, settings, line),
-        Route::Started(from) => Some(second_step(from, line)),
-        Route::Lowered(from) => Some(third_step(from, settings, line)),
-        Route::Cut(from, to) => Some(fourth_step(from, to, line)),
     }
 }
 
@@ -113,23 +139,48 @@ fn is_hole(spelled: &Option<DrillCommand>) -> bool
     )
 }
 
-fn routes(route: &Route) -> bool
-    ensures { result ≡ routes route.now }
+/// What a line spells that is read as in the strict profile, unless it drills while the machine routes.
+fn other_step(now: Machine, next: Machine, spelled: Option<DrillCommand>) -> Result<Step, Reason>
+    ensures { result ≡ other_step now next spelled }
 {
-    match route {
-        Route::Free(routing) => *routing,
-        Route::Started(_) | Route::Lowered(_) | Route::Cut(_, _) => false,
+    if matches!(now, Machine::Routing) && is_hole(&spelled) {
+        return Err(Reason::Routed);
+    }
+    Ok((spelled, Route::Free(next)))
+}
+
+/// What the machine does after a line.
+fn next_machine(now: Machine, line: &[u8]) -> Machine
+    ensures { result ≡ unwrap_or (machine_set line.now) now }
+{
+    if raises(line) {
+        Machine::Routing
+    } else if line == b"G05".as_slice() {
+        Machine::Drilling
+    } else if line == b"M00".as_slice() {
+        Machine::Stopped
+    } else {
+        now
     }
 }
 
-/// What a line spells that is read as in the strict profile, unless it drills while the machine routes.
-fn other_step(routing: bool, line: &[u8], spelled: Option<DrillCommand>) -> Result<Step, Reason>
-    ensures { result ≡ other_step routing line.now spelled }
+/// Reads a line where no line of a route is due.
+#[tactic(auto, unfolding(crate::specs::Inner::RouteSteps::route_step))]
+fn free_step(alloc: Global, now: Machine, settings: Settings, line: &[u8]) -> Result<Step, ItemFail>
+    ensures { Gives result (route_step (route.Free now) settings line.now) }
 {
-    if routing && is_hole(&spelled) {
-        return Err(Reason::Routed);
+    let next = next_machine(now, line);
+    if !may_stand(now, line) {
+        return Err(ItemFail::Refused(Reason::BadLine));
     }
-    Ok((spelled, Route::Free(routing && line != b"G05".as_slice())))
+    if says_nothing(settings.part, line) {
+        return Ok((None, Route::Free(next)));
+    }
+    if let Some(step) = part_step(next, &settings, line) {
+        return as_item(step);
+    }
+    let spelled = read_trimmed(alloc, settings, line)?;
+    as_item(other_step(now, next, spelled))
 }
 
 /// What a line without blanks at its end spells in the wide profile, and the route after it.
@@ -142,15 +193,10 @@ pub(crate) fn route_step(
 ) -> Result<Step, ItemFail>
     ensures { Gives result (route_step route settings line.now) }
 {
-    let routing = routes(&route);
-    match due_step(route, &settings, line) {
-        Some(Ok(step)) => return Ok(step),
-        Some(Err(reason)) => return Err(ItemFail::Refused(reason)),
-        None => {}
-    }
-    let spelled = read_trimmed(alloc, settings, line)?;
-    match other_step(routing, line, spelled) {
-        Ok(step) => Ok(step),
-        Err(reason) => Err(ItemFail::Refused(reason)),
+    match route {
+        Route::Free(now) => free_step(alloc, now, settings, line),
+        Route::Started(from) => as_item(second_step(from, line)),
+        Route::Lowered(from) => as_item(third_step(from, &settings, line)),
+        Route::Cut(from, to) => as_item(fourth_step(from, to, line)),
     }
 }

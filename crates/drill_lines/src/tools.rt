@@ -1,12 +1,14 @@
 //! The lines that define a tool and that pick one.
 
-ghost use Rattle.std.specs.Prelude.{◌≡◌, ◌≤◌, ◌||◌, not, length, take_while, count_by};
-ghost use Rattle.std.specs.List.{list_all, list_any, after_first, position_or_len};
+ghost use Rattle.std.specs.Prelude.{◌≡◌, ◌||◌, count_by};
+ghost use Rattle.std.specs.List.{list_all, list_any, after_first};
 ghost use Rattle.grid_units.specs.Numbers.{is_number_char};
-ghost use Rattle.drill_lines.specs.Tools.{is_point, is_diameter_letter, is_skipped_letter, is_tool_letter, begins_with, are_fields, tool_number, diameter_of, diameter_run, tool_fields, tool_line, pick_fields, pick_line};
+ghost use Rattle.drill_lines.specs.Tools.{is_point, is_diameter_letter, is_skipped_letter, is_tool_letter, are_fields, tool_number, diameter_of, diameter_run, tool_fields, tool_line, pick_fields, pick_line};
 
 use crate::command::DrillCommand;
-use grid_units::numbers::{capped_value, digit_run_len, is_digits, is_number_char, number_run_len};
+use grid_units::numbers::{
+    capped_value, digit_run_len, is_digits, is_number_char, len_before, number_run_len,
+};
 use grid_units::{Dec, Reason, both};
 
 fn is_diameter_letter(byte: u8) -> bool
@@ -32,24 +34,6 @@ pub(crate) fn has_point(run: &[u8]) -> bool
     ensures { result ≡ list_any is_point run.now }
 {
     run.iter().any(|byte| *byte == b'.')
-}
-
-fn begins_with_letter(fields: &[u8]) -> bool
-    ensures { result ≡ begins_with is_tool_letter fields.now }
-{
-    match fields.first() {
-        Some(first) => is_tool_letter(*first),
-        None => true,
-    }
-}
-
-fn begins_with_skipped(fields: &[u8]) -> bool
-    ensures { result ≡ begins_with is_skipped_letter fields.now }
-{
-    match fields.first() {
-        Some(first) => is_skipped_letter(*first),
-        None => true,
-    }
 }
 
 fn is_tool_byte(byte: u8) -> bool
@@ -80,14 +64,20 @@ fn are_pick_bytes(fields: &[u8]) -> bool
 fn are_tool_fields(fields: &[u8]) -> bool
     ensures { result ≡ are_fields is_tool_letter fields.now }
 {
-    begins_with_letter(fields) && are_tool_bytes(fields)
+    match fields.first() {
+        Some(first) => is_tool_letter(*first) && are_tool_bytes(fields),
+        None => true,
+    }
 }
 
 /// Whether these are letters of a pick, each with a run, as `F200S65`.
 fn are_pick_fields(fields: &[u8]) -> bool
     ensures { result ≡ are_fields is_skipped_letter fields.now }
 {
-    begins_with_skipped(fields) && are_pick_bytes(fields)
+    match fields.first() {
+        Some(first) => is_skipped_letter(*first) && are_pick_bytes(fields),
+        None => true,
+    }
 }
 
 /// How many `C` there are.
@@ -128,38 +118,12 @@ fn diameter_of(run: &[u8]) -> Result<Dec, Reason>
     }
 }
 
-fn is_other_letter(byte: u8) -> bool
-    ensures { result ≡ not (is_diameter_letter byte) }
-{
-    !is_diameter_letter(byte)
-}
-
-/// Where the first `C` stands, or the length where there is none.
-fn diameter_at(fields: &[u8]) -> usize
-    ensures within { result ≤ length fields.now }
-    ensures len { result ≡ position_or_len is_diameter_letter fields.now }
-{
-    for (i, byte) in fields.iter().enumerate() {
-        if !is_other_letter(*byte) {
-            return i;
-        }
-    }
-    fields.len()
-}
-
 /// The bytes after the first `C`.
 fn after_diameter_letter(fields: &[u8]) -> &[u8]
     ensures { result.now ≡ after_first is_diameter_letter fields.now }
 {
-    let start = fields.len().min(diameter_at(fields) + 1);
+    let start = fields.len().min(len_before(b'C', fields) + 1);
     &fields[start..]
-}
-
-/// The run at the start of the bytes.
-fn take_while_append(bytes: &[u8]) -> &[u8]
-    ensures { result.now ≡ take_while is_number_char bytes.now }
-{
-    &bytes[..number_run_len(bytes)]
 }
 
 /// A tool's definition, by the digits of its number and its fields.
@@ -170,7 +134,8 @@ fn tool_fields(digits: &[u8], fields: &[u8]) -> Result<DrillCommand, Reason>
     if !are_tool_fields(fields) || diameter_count(fields) != 1 {
         return Err(Reason::BadLine);
     }
-    let run = take_while_append(after_diameter_letter(fields));
+    let rest = after_diameter_letter(fields);
+    let run = &rest[..number_run_len(rest)];
     let (number, diameter) = both(tool_number(1, digits), diameter_of(run))?;
     Ok(DrillCommand::Tool(number, diameter))
 }

@@ -10,7 +10,7 @@ pub use Rattle.drill_lines.specs.Lines.{is_blank, without_end_blanks}
 pub use Rattle.drill_lines.specs.Meaning.{begins_comment, body_rows, common_rows, header_rows, one_command}
 unfoldable pub use Rattle.drill_lines.specs.Meaning.{body_prefixes, common_lines, header_ends, line_in, lines_before, meaning}
 pub use Rattle.drill_lines.specs.RouteGrammar.{IsAlone, IsRoute}
-pub use Rattle.drill_lines.specs.Routes.{cuts, fourth_line, is_routing, last_line, lowers, meaning_in, other_line, second_line, starts, third_line, unless_routing, wide_row}
+pub use Rattle.drill_lines.specs.Routes.{cuts, is_routing, last_line, lowers, machine_after, may_stand, meaning_in, other_line, part_row, says_nothing, starts, unless_routing}
 unfoldable pub use Rattle.drill_lines.specs.Routes.{wide_meaning}
 pub use Rattle.drill_lines.specs.Writing.{IsInRange, canonical, is_sayable}
 pub use Rattle.drill_lines.specs.declared.command.Coordinates.{Coordinates}
@@ -18,6 +18,7 @@ pub use Rattle.drill_lines.specs.declared.command.DrillCommand.{DrillCommand}
 pub use Rattle.drill_lines.specs.declared.command.DrillCommand.TheVariants.{Comment, Finish, HeaderEnd, Hit, Pick, Slot, Start, Tool, UnitLine}
 pub use Rattle.drill_lines.specs.declared.command.Part.{Part}
 pub use Rattle.drill_lines.specs.declared.command.Settings.{Settings}
+pub use Rattle.drill_lines.specs.declared.route.Machine.{Machine}
 pub use Rattle.drill_text.specs.Grammar.{AreEntries, IsEntry, IsText, lines_of}
 pub use Rattle.drill_text.specs.Holding.{Advances, HasFault, Holds, Refuses, RefusesText}
 pub use Rattle.drill_text.specs.Holes.{DrillPath, coordinate_in, diameter_after, hole_of, holes_at, holes_of, path_at, point_at, unit_after, unit_or}
@@ -53,7 +54,7 @@ pub use Rattle.grid_units.specs.Results.{Answers, IfFault, IsRefusedAs, both, fa
 pub use Rattle.grid_units.specs.declared.fault.Fail.{Fail}
 pub use Rattle.grid_units.specs.declared.fault.Fault.{Fault}
 pub use Rattle.grid_units.specs.declared.fault.Reason.{Reason}
-pub use Rattle.grid_units.specs.declared.fault.Reason.TheVariants.{BadSize, FormatConflict, NoPlating, NoTool, NoUnit, PlatingConflict, Redefined, Routed, TooFar, TooLong, TooManyHoles, Truncated, UnitConflict, UnknownTool}
+pub use Rattle.grid_units.specs.declared.fault.Reason.TheVariants.{BadLine, BadSize, FormatConflict, NoPlating, NoTool, NoUnit, PlatingConflict, Redefined, Routed, TooFar, TooLong, TooManyHoles, Truncated, UnitConflict, UnknownTool}
 pub use Rattle.grid_units.specs.declared.item_fail.ItemFail.{ItemFail}
 pub use Rattle.grid_units.specs.declared.lengths.Unit.TheVariants.{Inch, Millimetre}
 pub use Rattle.grid_units.specs.declared.profile.Profile.TheVariants.{Strict, Wide}

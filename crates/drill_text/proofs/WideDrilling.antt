@@ -1,5 +1,5 @@
 -- The legal commands of a wide text drill in the body alone, and so they drill the holes that are listed of them.
-use Rattle.drill_text.proofs.Common.{◌≡◌, ℕ, Bool, true, List, [], ◌∷◌, ◌++◌, Option, None, Some, inl, inr, refl, sym, subst, ◌∙◌, append_assoc, option_to_list, Part, Settings, DrillCommand, Wide, without_end_blanks, IsAlone, is_routing, settings_after, part_after, drills, AreEntries, IsEntry, WideHolesAreDrilled}
+use Rattle.drill_text.proofs.Common.{◌≡◌, ℕ, true, List, [], ◌∷◌, ◌++◌, Option, None, Some, inl, inr, refl, sym, subst, ◌∙◌, append_assoc, option_to_list, Part, Settings, DrillCommand, Wide, without_end_blanks, IsAlone, Machine, machine_after, settings_after, part_after, drills, AreEntries, IsEntry, WideHolesAreDrilled}
 use Rattle.std.proofs.Common.{append-nil}
 use Rattle.drill_lines.specs.declared.command.Part.TheVariants as part
 use Rattle.drill_lines.specs.declared.command.DrillCommand.TheVariants as command
@@ -22,16 +22,17 @@ body_next before new (Some c) h k = record {
 }
 
 -- a line by itself that drills stands in the body
-alone_in_body : (settings : Settings) (routing : Bool) (line : List ℕ) (c : DrillCommand) → IsAlone settings routing line (Some c) → drills c ≡ true → settings.part ≡ part.Body
-alone_in_body settings routing line (command.Hit p) (inl h) d = h.0.0
-alone_in_body settings routing line (command.Slot p q) (inl h) d = h.0.0
-alone_in_body settings routing line (command.Hit p) (inr h) d = let e = h.2 in absurd cc
-alone_in_body settings routing line (command.Slot p q) (inr h) d = let e = h.2 in absurd cc
-alone_in_body settings routing line c h d = absurd cc
+alone_in_body : (settings : Settings) (now : Machine) (line : List ℕ) (c : DrillCommand) → IsAlone settings now line (Some c) → drills c ≡ true → settings.part ≡ part.Body
+alone_in_body settings now line (command.Hit p) (stands, inl h) d = h.0.0
+alone_in_body settings now line (command.Slot p q) (stands, inl h) d = h.0.0
+alone_in_body settings now line (command.Hit p) (stands, inr (inl h)) d = let e = h.2 in absurd cc
+alone_in_body settings now line (command.Slot p q) (stands, inr (inl h)) d = let e = h.2 in absurd cc
+alone_in_body settings now line c (stands, inr (inr h)) d = let e = h.1 in absurd cc
+alone_in_body settings now line c h d = absurd cc
 
 -- and so do the lines of a route
 entry_in_body : (earlier : List (List ℕ)) (settings : Settings) (entry : List (List ℕ)) (c : DrillCommand) → IsEntry Wide earlier settings entry (Some c) → drills c ≡ true → settings.part ≡ part.Body
-entry_in_body earlier settings (line ∷ []) c h d = alone_in_body settings (is_routing (map without_end_blanks earlier)) (without_end_blanks line) c h d
+entry_in_body earlier settings (line ∷ []) c h d = alone_in_body settings (machine_after (map without_end_blanks earlier)) (without_end_blanks line) c h d
 entry_in_body earlier settings (first ∷ second ∷ third ∷ fourth ∷ []) (command.Slot p q) h d = h.in_body
 entry_in_body earlier settings entry c h d = absurd h
 

@@ -1,7 +1,7 @@
 -- A text of the wide profile, by its grammar, is read as its commands. By the grammar of each profile a text has one list of commands.
-use Rattle.drill_text.proofs.Common.{◌≡◌, ◌≤◌, ◌⊎◌, inl, inr, ℕ, suc, Bool, true, false, cond, List, [], ◌∷◌, ◌++◌, length, map, Option, None, Some, unwrap_or, Result, Ok, Err, refl, sym, ap, subst, ◌∙◌, arith, append_assoc, option_to_list, append-nil, Reason, Routed, ◌>>=◌, fault, with_place, IsLegal, line_limit, and_false, bind_ok, Coordinates, Part, Settings, DrillCommand, Slot, Strict, Wide, without_end_blanks, meaning, starts, lowers, cuts, last_line, is_routing, second_line, third_line, fourth_line, wide_row, unless_routing, other_line, wide_meaning, IsAlone, IsRoute, IsFree, written_is_answered, bytes_of, settings_after, broken_rule, commands_by, plain, spelled_in, with_rest, AreWithinLimit, spelled_after, AreEntries, IsText, lines_of, IsTextOfAtMostOne, WrittenIsRead}
+use Rattle.drill_text.proofs.Common.{◌≡◌, ◌⊎◌, inl, inr, ℕ, suc, Bool, true, false, cond, List, [], ◌∷◌, ◌++◌, length, map, Option, None, Some, unwrap_or, Result, Ok, Err, refl, sym, ap, subst, ◌∙◌, arith, append_assoc, option_to_list, append-nil, BadLine, Reason, Routed, ◌>>=◌, fault, with_place, IsLegal, and_false, bind_ok, Coordinates, Machine, Part, Settings, DrillCommand, Slot, Strict, Wide, without_end_blanks, meaning, starts, lowers, cuts, last_line, is_routing, machine_after, part_row, says_nothing, unless_routing, other_line, wide_meaning, IsAlone, IsRoute, IsFree, written_is_answered, bytes_of, settings_after, broken_rule, commands_by, plain, spelled_in, with_rest, AreWithinLimit, spelled_after, AreEntries, IsText, lines_of, IsTextOfAtMostOne, WrittenIsRead}
 use Rattle.drill_lines.specs.declared.command.Part.TheVariants as part
-use Rattle.drill_lines.proofs.RouteReads.{alone_read, early_end_read, route_read}
+use Rattle.drill_lines.proofs.RouteLemmas.{alone_read, early_end_read, empty_stands, meaning_by, old_read, route_read}
 use Rattle.drill_text.proofs.FirstFaults.{cut}
 use Rattle.drill_text.proofs.GrammarLemmas.{end_found, lines_in, same_lines, text_spells}
 use Rattle.drill_text.proofs.SpellsTextLemmas.{keeps_judged, legal_prefix, last_short}
@@ -23,11 +23,10 @@ line_spells e before line lines c spells = ap (λ r. r >>= λ o. wide_spelled (e
 none_spelled : (e : List (List ℕ)) (before : List DrillCommand) (line : List ℕ) (lines : List (List ℕ)) → wide_meaning (map without_end_blanks e) (settings_after before) (without_end_blanks line) ≡ Ok None → wide_spelled e before (line ∷ lines) ≡ wide_spelled (e ++ line ∷ []) before lines
 none_spelled e before line lines spells = line_spells e before line lines None spells ∙ ap (λ (cs : List DrillCommand). wide_spelled (e ++ line ∷ []) cs lines) (append-nil before)
 
-alone_spells : (s : Settings) (e : List (List ℕ)) (line : List ℕ) (c : Option DrillCommand) → IsFree e → IsAlone s (is_routing e) line c → (wide_meaning e s line ≡ Ok c) × IsFree (e ++ line ∷ [])
-alone_spells s e line c free (inl h) = alone_read s e line c free (written_is_answered s line c h.0) h.1
-alone_spells s e line c free (inr h) =
-    let k = early_end_read s e free h.0 in
-    (ap (wide_meaning e s) h.1 ∙ (k.0 ∙ ap (λ (x : Option DrillCommand). Ok x) (sym h.2)), subst (λ (l : List ℕ). IsFree (e ++ l ∷ [])) (sym h.1) k.1)
+alone_spells : (s : Settings) (e : List (List ℕ)) (line : List ℕ) (c : Option DrillCommand) → IsFree e → IsAlone s (machine_after e) line c → (wide_meaning e s line ≡ Ok c) × IsFree (e ++ line ∷ [])
+alone_spells s e line c free (stands, inl h) = alone_read s e line c free stands (written_is_answered s line c h.0) h.1
+alone_spells s e line c free (stands, inr (inl h)) = let k = early_end_read s e line free stands h.0 h.1 in (k.0 ∙ ap (λ (x : Option DrillCommand). Ok x) (sym h.2), k.1)
+alone_spells s e line c free (stands, inr (inr h)) = let k = old_read s e line free stands h.0 in (k.0 ∙ ap (λ (x : Option DrillCommand). Ok x) (sym h.1), k.1)
 
 -- ---- entries
 
@@ -35,7 +34,7 @@ four_more : (e : List (List ℕ)) (a b c d : List ℕ) → (((e ++ a ∷ []) ++ 
 four_more e a b c d = simp append_assoc refl
 
 -- the four lines of a route spell a slot
-route_spelled : (e : List (List ℕ)) (before : List DrillCommand) (a b c d : List ℕ) (from to : Coordinates) (rest : List (List ℕ)) → IsFree (map without_end_blanks e) → IsRoute (settings_after before) (without_end_blanks a) (without_end_blanks b) (without_end_blanks c) (without_end_blanks d) from to
+route_spelled : (e : List (List ℕ)) (before : List DrillCommand) (a b c d : List ℕ) (from to : Coordinates) (rest : List (List ℕ)) → IsFree (map without_end_blanks e) → IsRoute (settings_after before) (machine_after (map without_end_blanks e)) (without_end_blanks a) (without_end_blanks b) (without_end_blanks c) (without_end_blanks d) from to
     → (wide_spelled e before (a ∷ b ∷ c ∷ d ∷ rest) ≡ wide_spelled (e ++ (a ∷ b ∷ c ∷ d ∷ [])) (before ++ Slot from to ∷ []) rest) × IsFree (map without_end_blanks (e ++ (a ∷ b ∷ c ∷ d ∷ [])))
 route_spelled e before a b c d from to rest free is =
     let s = settings_after before in
@@ -93,31 +92,34 @@ spelled_read e before (line ∷ lines) cs short h legal =
 
 -- an empty line spells nothing, or is refused within a route
 empty_spells : (e : List (List ℕ)) (s : Settings) → (wide_meaning e s [] ≡ Ok None) ⊎ (wide_meaning e s [] ≡ Err Routed)
-unfolding wide_meaning meaning
-empty_spells e s = by (starts (last_line e)) (lowers (last_line e)) (cuts (last_line e))
+unfolding meaning
+empty_spells e s = by (starts (last_line e)) (lowers (last_line e)) (cuts (last_line e)) refl refl refl
   where
-    other : (p : Part) (r : Bool) → unwrap_or (wide_row p s []) (meaning s [] >>= unless_routing r) ≡ Ok None
-    other part.Before r = ap (λ t. cond t (Err Routed) (Ok None)) (and_false r)
-    other part.Header r = ap (λ t. cond t (Err Routed) (Ok None)) (and_false r)
-    other part.Body r = ap (λ t. cond t (Err Routed) (Ok None)) (and_false r)
-    other part.After r = ap (λ t. cond t (Err Routed) (Ok None)) (and_false r)
+    no_row : (p : Part) → cond (says_nothing p []) (Some (Ok None)) (part_row p s []) ≡ None
+    no_row part.Before = refl
+    no_row part.Header = refl
+    no_row part.Body = refl
+    no_row part.After = refl
 
-    by : (t u v : Bool) → (cond t (second_line []) (cond u (third_line s []) (cond v (fourth_line e s []) (other_line (is_routing e) s []))) ≡ Ok None) ⊎ (cond t (second_line []) (cond u (third_line s []) (cond v (fourth_line e s []) (other_line (is_routing e) s []))) ≡ Err Routed)
-    by true u v = inr refl
-    by false true v = inr refl
-    by false false true = inr refl
-    by false false false = inl (other s.part (is_routing e))
+    other : (now : Machine) → other_line now s [] ≡ Ok None
+    other now =
+        let spelled : Result (Option DrillCommand) Reason = Ok None >>= unless_routing now in
+        ap (λ t. unwrap_or (cond t (cond (says_nothing s.part []) (Some (Ok None)) (part_row s.part s [])) (Some (Err BadLine))) spelled) (empty_stands now)
+        ∙ (ap (λ (row : Option (Result (Option DrillCommand) Reason)). unwrap_or row spelled) (no_row s.part) ∙ ap (λ t. cond t (Err Routed) (Ok None)) (and_false (is_routing now)))
+
+    by : (t u v : Bool) → starts (last_line e) ≡ t → lowers (last_line e) ≡ u → cuts (last_line e) ≡ v → (wide_meaning e s [] ≡ Ok None) ⊎ (wide_meaning e s [] ≡ Err Routed)
+    by true u v a b c = inr (meaning_by s e [] true u v a b c)
+    by false true v a b c = inr (meaning_by s e [] false true v a b c)
+    by false false true a b c = inr (meaning_by s e [] false false true a b c)
+    by false false false a b c = inl (meaning_by s e [] false false false a b c ∙ other (machine_after e))
 
 rest_read : (lines : List (List ℕ)) (rest : List ℕ) (before cs : List DrillCommand) → spelled_in (plain Wide) lines rest before ≡ Ok cs → with_rest (plain Wide) lines rest before ≡ Ok cs
 rest_read lines (b ∷ bs) before cs e = e
 rest_read lines [] before cs e = elim (empty_spells (map without_end_blanks lines) (settings_after before)) [
-  | inl h ↦ sym (spelled_in_is (plain Wide) lines [] before (Ok None) (le_zero line_limit) h) ∙ e
-  | inr h ↦ absurd (never (sym (spelled_in_is (plain Wide) lines [] before (Err Routed) (le_zero line_limit) h) ∙ e))
+  | inl h ↦ sym (spelled_in_is (plain Wide) lines [] before (Ok None) (omega arith) h) ∙ e
+  | inr h ↦ absurd (never (sym (spelled_in_is (plain Wide) lines [] before (Err Routed) (omega arith) h) ∙ e))
 ]
   where
-    le_zero : (n : ℕ) → 0 ≤ n
-    le_zero n = omega arith
-
     never : Err (fault (suc (length lines)) (length (bytes_of lines)) Routed) ≡ Ok cs → ⊥
     never k = absurd cc
 

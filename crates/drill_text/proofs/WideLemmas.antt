@@ -1,5 +1,6 @@
 -- A text that is read in the strict profile is read alike in the wide one.
-use Rattle.drill_text.proofs.Common.{◌≡◌, ℕ, suc, false, cond, ltb, List, [], ◌∷◌, ◌++◌, length, map, Ok, Err, refl, sym, ap, subst, ◌∙◌, append_assoc, append-nil, TooLong, ◌>>=◌, with_place, bind_ok, line_limit, DrillCommand, Strict, Wide, without_end_blanks, meaning, is_routing, wide_meaning, IsFree, bytes_of, settings_after, Reads, ReadsIn, commands_with, commands_by, plain, spelled_in, step_in, with_rest}
+use Rattle.drill_text.proofs.Common.{◌≡◌, ℕ, suc, cond, ltb, List, [], ◌∷◌, ◌++◌, length, map, Ok, Err, refl, sym, ap, subst, ◌∙◌, append_assoc, append-nil, TooLong, ◌>>=◌, with_place, bind_ok, line_limit, DrillCommand, Strict, Wide, without_end_blanks, meaning, machine_after, wide_meaning, IsFree, bytes_of, settings_after, Reads, ReadsIn, commands_with, commands_by, plain, spelled_in, step_in, with_rest}
+use Rattle.drill_lines.specs.declared.route.Machine.TheVariants as machine
 use Rattle.drill_lines.proofs.RouteLemmas.{strict_line}
 use Rattle.drill_text.proofs.SpelledLemmas.{trimmed_more}
 use Rattle.drill_text.proofs.ProfileLemmas.{at_ok, ending, guarded, read_alike}
@@ -7,7 +8,7 @@ use Rattle.drill_text.proofs.ProfileLemmas.{at_ok, ending, guarded, read_alike}
 -- no line of a route is due after these lines, and the machine drills
 record IsDrilling (earlier : List (List ℕ)) : Type 0 where
   free : IsFree (map without_end_blanks earlier)
-  drills : is_routing (map without_end_blanks earlier) ≡ false
+  drills : machine_after (map without_end_blanks earlier) ≡ machine.Drilling
 
 step_alike : (earlier : List (List ℕ)) (line : List ℕ) (before cs : List DrillCommand) → IsDrilling earlier → step_in (plain Strict) earlier before line ≡ Ok cs → (step_in (plain Wide) earlier before line ≡ Ok cs) × IsDrilling (earlier ++ line ∷ [])
 unfolding step_in
@@ -18,7 +19,7 @@ step_alike earlier line before cs h e =
     let k = strict_line s (map without_end_blanks earlier) (without_end_blanks line) b.0 h.free h.drills b.1 in
     let same : map without_end_blanks earlier ++ without_end_blanks line ∷ [] ≡ map without_end_blanks (earlier ++ line ∷ []) = sym (trimmed_more earlier line) in (
       ap (λ t. cond t (Err TooLong) (wide_meaning (map without_end_blanks earlier) s (without_end_blanks line) >>= commands_with before)) g.0 ∙ (ap (λ m. m >>= commands_with before) k.0 ∙ b.2),
-      record { free = subst IsFree same k.1.0; drills = ap is_routing (sym same) ∙ k.1.1 },
+      record { free = subst IsFree same k.1.0; drills = ap machine_after (sym same) ∙ k.1.1 },
     )
 
 line_alike : (earlier : List (List ℕ)) (line : List ℕ) (before cs : List DrillCommand) → IsDrilling earlier → spelled_in (plain Strict) earlier line before ≡ Ok cs → (spelled_in (plain Wide) earlier line before ≡ Ok cs) × IsDrilling (earlier ++ line ∷ [])

@@ -1,11 +1,12 @@
 -- A text that is read in the wide profile is a wide text, by its grammar, of what it is read as.
-use Rattle.drill_text.proofs.Common.{◌≡◌, ◌≤◌, inl, inr, ℕ, suc, Bool, true, false, ltb, ◌||◌, List, [], ◌∷◌, ◌++◌, length, map, Option, None, Some, Ok, refl, sym, ap, subst, ◌∙◌, arith, append_assoc, codes, list_any, option_to_list, ltb-false, append-nil, flat_map-append, TooLong, ◌>>=◌, IsLegal, line_limit, and_false, last_or-more, list_any-more, bind_ok, Coordinates, Part, Settings, DrillCommand, Wide, without_end_blanks, line_in, is_routing, wide_meaning, IsAlone, IsRoute, IsLater, IsRouteAfter, read_in_part, means, written_is_answered, bytes_of, part_set, part_after, settings_after, broken_rule, commands_with, commands_by, is_finish, plain, spelled_in, step_in, with_rest, AreWithinLimit, IsEntry, AreEntries, lines_of, ReadIsWritten}
+use Rattle.drill_text.proofs.Common.{◌≡◌, ◌≤◌, inl, inr, ℕ, suc, Bool, true, false, ltb, ◌||◌, List, [], ◌∷◌, ◌++◌, length, map, Option, None, Some, Ok, refl, sym, ap, subst, ◌∙◌, arith, append_assoc, codes, list_any, option_to_list, ltb-false, append-nil, flat_map-append, TooLong, ◌>>=◌, IsLegal, line_limit, and_false, last_or-more, list_any-more, bind_ok, Coordinates, Machine, Part, Settings, DrillCommand, Wide, without_end_blanks, line_in, is_routing, machine_after, may_stand, wide_meaning, IsAlone, IsRoute, IsLater, IsRouteAfter, read_in_part, means, written_is_answered, bytes_of, part_set, part_after, settings_after, broken_rule, commands_with, commands_by, is_finish, plain, spelled_in, step_in, with_rest, AreWithinLimit, IsEntry, AreEntries, lines_of, ReadIsWritten}
 use Rattle.drill_lines.specs.declared.command.Part.TheVariants as part
 use Rattle.drill_lines.specs.declared.command.DrillCommand.TheVariants as command
+use Rattle.drill_lines.specs.declared.route.Machine.TheVariants as machine
 use Rattle.drill_lines.specs.declared.route.Route.{Route}
 use Rattle.drill_lines.specs.declared.route.Route.TheVariants as route
 use Rattle.drill_lines.specs.Grammar.{IsPointText}
-use Rattle.drill_lines.proofs.RouteReads.{IsWritten, empty_line, reads_on}
+use Rattle.drill_lines.proofs.RouteLemmas.{IsWritten, empty_line, empty_stands, reads_on}
 use Rattle.drill_text.proofs.SplitsLemmas.{AllR-append}
 use Rattle.drill_text.proofs.GrammarLemmas.{is_end, lines_in, same_lines, has_end}
 use Rattle.drill_text.proofs.SpellsTextLemmas.{judged_ok}
@@ -32,7 +33,8 @@ lines_push entries entry = flat_map-append (λ (x : List (List ℕ)). x) entries
 
 -- ---- lines that wait for the next of a route
 
-record IsBegun (s : Settings) (first : List ℕ) (from : Coordinates) : Type 0 where
+record IsBegun (s : Settings) (now : Machine) (first : List ℕ) (from : Coordinates) : Type 0 where
+  stands : may_stand now first ≡ true
   in_body : s.part ≡ part.Body
   start : List ℕ
   first_is : first ≡ codes "G00" ++ start
@@ -43,11 +45,11 @@ record IsCut (s : Settings) (third : List ℕ) (to : Coordinates) : Type 0 where
   third_is : third ≡ codes "G01" ++ target
   to_is : IsPointText s target to
 
-abbrev Waits : Route → Settings → List (List ℕ) → Type 0
-Waits (route.Free routing) s pending = pending ≡ []
-Waits (route.Started from) s pending = (a : List ℕ) × (pending ≡ a ∷ []) × IsBegun s (without_end_blanks a) from
-Waits (route.Lowered from) s pending = (a b : List ℕ) × (pending ≡ a ∷ b ∷ []) × IsBegun s (without_end_blanks a) from × (without_end_blanks b ≡ codes "M15")
-Waits (route.Cut from to) s pending = (a b c : List ℕ) × (pending ≡ a ∷ b ∷ c ∷ []) × IsBegun s (without_end_blanks a) from × (without_end_blanks b ≡ codes "M15") × IsCut s (without_end_blanks c) to
+abbrev Waits : Route → Settings → Machine → List (List ℕ) → Type 0
+Waits (route.Free at) s now pending = pending ≡ []
+Waits (route.Started from) s now pending = (a : List ℕ) × (pending ≡ a ∷ []) × IsBegun s now (without_end_blanks a) from
+Waits (route.Lowered from) s now pending = (a b : List ℕ) × (pending ≡ a ∷ b ∷ []) × IsBegun s now (without_end_blanks a) from × (without_end_blanks b ≡ codes "M15")
+Waits (route.Cut from to) s now pending = (a b c : List ℕ) × (pending ≡ a ∷ b ∷ c ∷ []) × IsBegun s now (without_end_blanks a) from × (without_end_blanks b ≡ codes "M15") × IsCut s (without_end_blanks c) to
 
 -- the lines are entries that spell these commands, and lines that wait
 record IsGrouped (earlier : List (List ℕ)) (before : List DrillCommand) (r : Route) : Type 0 where
@@ -55,7 +57,7 @@ record IsGrouped (earlier : List (List ℕ)) (before : List DrillCommand) (r : R
   pending : List (List ℕ)
   lines : earlier ≡ lines_in entries ++ pending
   spells : AreEntries Wide [] [] entries before
-  waits : Waits r (settings_after before) pending
+  waits : Waits r (settings_after before) (machine_after (map without_end_blanks (lines_in entries))) pending
 
 -- a line that spells nothing yet waits
 waits_on : (earlier : List (List ℕ)) (before : List DrillCommand) (line : List ℕ) (c : Option DrillCommand) (next given : Route) → c ≡ None → next ≡ given → IsGrouped (earlier ++ line ∷ []) before given → IsGrouped (earlier ++ line ∷ []) (before ++ option_to_list c) next
@@ -64,7 +66,7 @@ waits_on earlier before line c next given none is h =
     (subst (λ (cs : List DrillCommand). IsGrouped (earlier ++ line ∷ []) cs next) (sym (append-nil before)) (subst (IsGrouped (earlier ++ line ∷ []) before) (sym is) h))
 
 -- the last line of an entry
-closes : (earlier : List (List ℕ)) (before : List DrillCommand) (line : List ℕ) (c : Option DrillCommand) (next : Route) (after : Bool) (entries : List (List (List ℕ))) (pending : List (List ℕ)) → next ≡ route.Free after → earlier ≡ lines_in entries ++ pending → AreEntries Wide [] [] entries before
+closes : (earlier : List (List ℕ)) (before : List DrillCommand) (line : List ℕ) (c : Option DrillCommand) (next : Route) (after : Machine) (entries : List (List (List ℕ))) (pending : List (List ℕ)) → next ≡ route.Free after → earlier ≡ lines_in entries ++ pending → AreEntries Wide [] [] entries before
     → IsEntry Wide (lines_in entries) (settings_after before) (pending ++ line ∷ []) c → IsGrouped (earlier ++ line ∷ []) (before ++ option_to_list c) next
 closes earlier before line c next after entries pending is lines spells entry = subst (IsGrouped (earlier ++ line ∷ []) (before ++ option_to_list c)) (sym is) (record {
   entries = entries ++ (pending ++ line ∷ []) ∷ [];
@@ -76,18 +78,19 @@ closes earlier before line c next after entries pending is lines spells entry = 
 
 grouped_more : (r : Route) (earlier : List (List ℕ)) (before : List DrillCommand) (line : List ℕ) (c : Option DrillCommand) (next : Route) → IsGrouped earlier before r → IsRouteAfter r (settings_after before) (map without_end_blanks earlier)
     → IsWritten r (settings_after before) (without_end_blanks line) c next → IsGrouped (earlier ++ line ∷ []) (before ++ option_to_list c) next
-grouped_more (route.Free routing) earlier before line c next g at (inl (after, is, alone)) =
+grouped_more (route.Free now) earlier before line c next g at (inl (after, is, alone)) =
     let whole : earlier ≡ lines_in g.entries = g.lines ∙ (ap (λ (p : List (List ℕ)). lines_in g.entries ++ p) g.waits ∙ append-nil (lines_in g.entries)) in
-    let here : is_routing (map without_end_blanks (lines_in g.entries)) ≡ routing = ap (λ (l : List (List ℕ)). is_routing (map without_end_blanks l)) (sym whole) ∙ at.1 in
-    closes earlier before line c next after g.entries [] is (whole ∙ sym (append-nil (lines_in g.entries))) g.spells (subst (λ b. IsAlone (settings_after before) b (without_end_blanks line) c) (sym here) alone)
-grouped_more (route.Free routing) earlier before line c next g at (inr (from, start, body, first_is, from_is, none, is)) =
+    let here : machine_after (map without_end_blanks (lines_in g.entries)) ≡ now = ap (λ (l : List (List ℕ)). machine_after (map without_end_blanks l)) (sym whole) ∙ at.1 in
+    closes earlier before line c next after g.entries [] is (whole ∙ sym (append-nil (lines_in g.entries))) g.spells (subst (λ (m : Machine). IsAlone (settings_after before) m (without_end_blanks line) c) (sym here) alone)
+grouped_more (route.Free now) earlier before line c next g at (inr (from, start, stands, body, first_is, from_is, none, is)) =
     let whole : earlier ≡ lines_in g.entries = g.lines ∙ (ap (λ (p : List (List ℕ)). lines_in g.entries ++ p) g.waits ∙ append-nil (lines_in g.entries)) in
+    let here : machine_after (map without_end_blanks (lines_in g.entries)) ≡ now = ap (λ (l : List (List ℕ)). machine_after (map without_end_blanks l)) (sym whole) ∙ at.1 in
     waits_on earlier before line c next (route.Started from) none is (record {
       entries = g.entries;
       pending = line ∷ [];
       lines = ap (λ (l : List (List ℕ)). l ++ line ∷ []) whole;
       spells = g.spells;
-      waits = (line, refl, record { in_body = body; start = start; first_is = first_is; from_is = from_is });
+      waits = (line, refl, record { stands = ap (λ (m : Machine). may_stand m (without_end_blanks line)) here ∙ stands; in_body = body; start = start; first_is = first_is; from_is = from_is });
     })
 grouped_more (route.Started from) earlier before line c next g at (second_is, none, is) =
     let a = g.waits.0 in
@@ -117,7 +120,8 @@ grouped_more (route.Cut from to) earlier before line c next g at (fourth_is, som
     let begun = g.waits.4 in
     let cut = g.waits.6 in
     let s = settings_after before in
-    let is_route : IsRoute s (without_end_blanks x) (without_end_blanks y) (without_end_blanks z) (without_end_blanks line) from to = record {
+    let is_route : IsRoute s (machine_after (map without_end_blanks (lines_in g.entries))) (without_end_blanks x) (without_end_blanks y) (without_end_blanks z) (without_end_blanks line) from to = record {
+      stands = begun.stands;
       in_body = begun.in_body;
       start = begun.start;
       first_is = begun.first_is;
@@ -128,7 +132,7 @@ grouped_more (route.Cut from to) earlier before line c next g at (fourth_is, som
       to_is = cut.to_is;
       fourth_is = fourth_is;
     } in
-    closes earlier before line c next true g.entries (x ∷ y ∷ z ∷ []) is (g.lines ∙ ap (λ (p : List (List ℕ)). lines_in g.entries ++ p) g.waits.3) g.spells
+    closes earlier before line c next machine.Routing g.entries (x ∷ y ∷ z ∷ []) is (g.lines ∙ ap (λ (p : List (List ℕ)). lines_in g.entries ++ p) g.waits.3) g.spells
     (subst (λ (o : Option DrillCommand). IsEntry Wide (lines_in g.entries) s (x ∷ y ∷ z ∷ line ∷ []) o) (sym some) is_route)
 
 -- ---- after `M30` nothing is spelled
@@ -138,15 +142,16 @@ unfolding read_in_part line_in
 nothing_after s [] d h = absurd cc
 nothing_after s (b ∷ bs) d h = absurd cc
 
-never_after : (r : Route) (before : List DrillCommand) (line : List ℕ) (d : DrillCommand) (next : Route) (pending : List (List ℕ)) → Waits r (settings_after before) pending → IsWritten r (settings_after before) (without_end_blanks line) (Some d) next → part_after before ≡ part.After → ⊥
-never_after (route.Free routing) before line d next pending w (inl (after, is, inl alone)) h =
+never_after : (r : Route) (before : List DrillCommand) (now : Machine) (line : List ℕ) (d : DrillCommand) (next : Route) (pending : List (List ℕ)) → Waits r (settings_after before) now pending → IsWritten r (settings_after before) (without_end_blanks line) (Some d) next → part_after before ≡ part.After → ⊥
+never_after (route.Free at) before now line d next pending w (inl (after, is, (stands, inl alone))) h =
     let s = settings_after before in
     nothing_after s (without_end_blanks line) d (ap (λ (p : Part). read_in_part p s (without_end_blanks line)) (sym h) ∙ (sym (means s (without_end_blanks line)) ∙ written_is_answered s (without_end_blanks line) (Some d) alone.0))
-never_after (route.Free routing) before line d next pending w (inl (after, is, inr alone)) h = let no : part.Before ≡ part.After = sym alone.0 ∙ h in absurd cc
-never_after (route.Free routing) before line d next pending w (inr (from, start, body, first_is, from_is, none, is)) h = absurd cc
-never_after (route.Started from) before line d next pending w (second_is, none, is) h = absurd cc
-never_after (route.Lowered from) before line d next pending w (to, target, third_is, to_is, none, is) h = absurd cc
-never_after (route.Cut from to) before line d next pending w k h = let no : part.Body ≡ part.After = sym w.4.in_body ∙ h in absurd cc
+never_after (route.Free at) before now line d next pending w (inl (after, is, (stands, inr (inl alone)))) h = let no : part.Before ≡ part.After = sym alone.0 ∙ h in absurd cc
+never_after (route.Free at) before now line d next pending w (inl (after, is, (stands, inr (inr alone)))) h = let no = alone.1 in absurd cc
+never_after (route.Free at) before now line d next pending w (inr (from, start, stands, body, first_is, from_is, none, is)) h = absurd cc
+never_after (route.Started from) before now line d next pending w (second_is, none, is) h = absurd cc
+never_after (route.Lowered from) before now line d next pending w (to, target, third_is, to_is, none, is) h = absurd cc
+never_after (route.Cut from to) before now line d next pending w k h = let no : part.Body ≡ part.After = sym w.4.in_body ∙ h in absurd cc
 
 -- the end of the file begins the part after it
 abbrev EndsPart : List DrillCommand → Type 0
@@ -193,7 +198,7 @@ parsed_more earlier before after line h e =
       at = subst (λ (l : List (List ℕ)). IsRouteAfter k.next (settings_after now) l) (sym (trimmed_more earlier line)) (k.after (settings_after now) (later_settings before c));
       short = AllR-append (λ l. length l ≤ line_limit) earlier (line ∷ []) h.short (ltb-false _ _ g.0, tt);
       legal = subst (IsLegal broken_rule) (sym j.0) (j.1 h.legal);
-      ends = ends_after before c h.ends (λ d same. never_after h.r before line d k.next h.grouped.pending h.grouped.waits (subst (λ (o : Option DrillCommand). IsWritten h.r s (without_end_blanks line) o k.next) same k.written));
+      ends = ends_after before c h.ends (λ d same. never_after h.r before (machine_after (map without_end_blanks (lines_in h.grouped.entries))) line d k.next h.grouped.pending h.grouped.waits (subst (λ (o : Option DrillCommand). IsWritten h.r s (without_end_blanks line) o k.next) same k.written));
     })
 
 line_parsed : (earlier : List (List ℕ)) (before after : List DrillCommand) (line : List ℕ) → IsParsed earlier before → spelled_in (plain Wide) earlier line before ≡ Ok after → IsParsed (earlier ++ line ∷ []) after
@@ -208,7 +213,7 @@ lines_parsed earlier (line ∷ lines) before after h e =
 
 none_parsed : IsParsed [] []
 none_parsed = record {
-  r = route.Free false;
+  r = route.Free machine.Drilling;
   grouped = record { entries = []; pending = []; lines = refl; spells = refl; waits = refl };
   at = ((refl, refl, refl), refl);
   short = tt;
@@ -219,11 +224,11 @@ none_parsed = record {
 -- ---- texts
 
 -- once the file has ended, no line waits
-free_at_end : (r : Route) (before : List DrillCommand) (pending : List (List ℕ)) → Waits r (settings_after before) pending → part_after before ≡ part.After → (routing : Bool) × (r ≡ route.Free routing) × (pending ≡ [])
-free_at_end (route.Free routing) before pending w h = (routing, refl, w)
-free_at_end (route.Started from) before pending w h = let no : part.Body ≡ part.After = sym w.2.in_body ∙ h in absurd cc
-free_at_end (route.Lowered from) before pending w h = let no : part.Body ≡ part.After = sym w.3.in_body ∙ h in absurd cc
-free_at_end (route.Cut from to) before pending w h = let no : part.Body ≡ part.After = sym w.4.in_body ∙ h in absurd cc
+free_at_end : (r : Route) (before : List DrillCommand) (now : Machine) (pending : List (List ℕ)) → Waits r (settings_after before) now pending → part_after before ≡ part.After → (at : Machine) × (r ≡ route.Free at) × (pending ≡ [])
+free_at_end (route.Free at) before now pending w h = (at, refl, w)
+free_at_end (route.Started from) before now pending w h = let no : part.Body ≡ part.After = sym w.2.in_body ∙ h in absurd cc
+free_at_end (route.Lowered from) before now pending w h = let no : part.Body ≡ part.After = sym w.3.in_body ∙ h in absurd cc
+free_at_end (route.Cut from to) before now pending w h = let no : part.Body ≡ part.After = sym w.4.in_body ∙ h in absurd cc
 
 -- lines of which none waits are those of the entries
 entries_alone : (entries : List (List (List ℕ))) (pending cut all : List (List ℕ)) → cut ≡ all → all ≡ lines_in entries ++ pending → pending ≡ [] → lines_in entries ≡ cut
@@ -232,11 +237,11 @@ entries_alone entries pending cut all same is none = sym (same ∙ (is ∙ (ap (
 -- an empty line after all is an entry too
 empty_entry : (lines : List (List ℕ)) (cs : List DrillCommand) → IsParsed lines cs → list_any is_finish cs ≡ true → IsParsed (lines ++ [] ∷ []) cs
 empty_entry lines cs h some =
-    let f = free_at_end h.r cs h.grouped.pending h.grouped.waits (h.ends some) in
+    let f = free_at_end h.r cs (machine_after (map without_end_blanks (lines_in h.grouped.entries))) h.grouped.pending h.grouped.waits (h.ends some) in
     let s = settings_after cs in
     let at : IsRouteAfter (route.Free f.0) s (map without_end_blanks lines) = subst (λ (r : Route). IsRouteAfter r s (map without_end_blanks lines)) f.1 h.at in
     let grouped : IsGrouped lines cs (route.Free f.0) = subst (IsGrouped lines cs) f.1 h.grouped in
-    let alone : IsAlone s f.0 [] None = inl ((0, omega arith, refl), and_false f.0) in
+    let alone : IsAlone s f.0 [] None = (empty_stands f.0, inl ((0, omega arith, refl), and_false (is_routing f.0))) in
     let more = grouped_more (route.Free f.0) lines cs [] None (route.Free f.0) grouped at (inl (f.0, refl, alone)) in
     record {
       r = route.Free f.0;
@@ -247,8 +252,8 @@ empty_entry lines cs h some =
       ends = h.ends;
     }
   where
-    after_empty : (lines : List (List ℕ)) (s : Settings) (routing : Bool) → IsRouteAfter (route.Free routing) s (map without_end_blanks lines) → IsRouteAfter (route.Free routing) s (map without_end_blanks (lines ++ [] ∷ []))
-    after_empty lines s routing at = subst (λ (l : List (List ℕ)). IsRouteAfter (route.Free routing) s l) (sym (trimmed_more lines [])) (empty_line s (map without_end_blanks lines) routing at)
+    after_empty : (lines : List (List ℕ)) (s : Settings) (now : Machine) → IsRouteAfter (route.Free now) s (map without_end_blanks lines) → IsRouteAfter (route.Free now) s (map without_end_blanks (lines ++ [] ∷ []))
+    after_empty lines s now at = subst (λ (l : List (List ℕ)). IsRouteAfter (route.Free now) s l) (sym (trimmed_more lines [])) (empty_line s (map without_end_blanks lines) now at)
 
 rest_parsed : (lines : List (List ℕ)) (rest : List ℕ) (before cs : List DrillCommand) → IsParsed lines before → with_rest (plain Wide) lines rest before ≡ Ok cs → list_any is_finish cs ≡ true → IsParsed (lines ++ rest ∷ []) cs
 rest_parsed lines [] before cs h e some = let same : before ≡ cs = cc in empty_entry lines cs (subst (IsParsed lines) same h) some
@@ -260,7 +265,7 @@ read_is_written text cs r =
     let first = lines_parsed [] k.lines [] k.first none_parsed k.shown in
     let all = rest_parsed k.lines k.rest k.first cs first k.last k.ends in
     let same : lines_of text ≡ k.lines ++ k.rest ∷ [] = same_lines text k.lines k.rest k.splits in
-    let f = free_at_end all.r cs all.grouped.pending all.grouped.waits (all.ends k.ends) in
+    let f = free_at_end all.r cs (machine_after (map without_end_blanks (lines_in all.grouped.entries))) all.grouped.pending all.grouped.waits (all.ends k.ends) in
     let whole : lines_in all.grouped.entries ≡ lines_of text = entries_alone all.grouped.entries all.grouped.pending (lines_of text) (k.lines ++ k.rest ∷ []) same all.grouped.lines f.2 in (
       (k.within, subst AreWithinLimit (sym same) all.short),
       record { entries = all.grouped.entries; lines = whole; spells = all.grouped.spells; ends = has_end cs k.ends },

@@ -23,16 +23,14 @@ pub record SpellLegally (lines : List (List ℕ)) (commands : List DrillCommand)
   pub spelling : spelled_after [] lines ≡ Ok commands
   pub legal : IsLegal broken_rule commands
 
--- a line after these commands is refused for this reason: it is too long; or it spells nothing for this reason; or the command
--- that it spells breaks this rule
+-- a line after these commands is refused for this reason: it is too long, it spells nothing, or its command breaks this rule
 abbrev pub IsRefused : List DrillCommand → List ℕ → Reason → Type 0
 IsRefused before line why =
     ((line_limit < length line) × (why ≡ TooLong))
     ⊎ ((length line ≤ line_limit) × ((meaning (settings_after before) (without_end_blanks line) ≡ Err why)
     ⊎ ((c : DrillCommand) × (meaning (settings_after before) (without_end_blanks line) ≡ Ok (Some c)) × (broken_rule before c ≡ Some why))))
 
--- One of these lines has this fault: the lines before its place spell legal commands, and the line at its place, which begins at
--- its byte, is refused for its reason.
+-- One of these lines has this fault: those before its place spell legal commands, and the one there, which begins at its byte, is refused for its reason.
 pub record HasRefusedLine (lines : List (List ℕ)) (f : Fault) : Type 0 where
   pub before : List (List ℕ)
   pub line : List ℕ
@@ -44,15 +42,13 @@ pub record HasRefusedLine (lines : List (List ℕ)) (f : Fault) : Type 0 where
   pub place : f.place ≡ suc (length before)
   pub byte : f.byte ≡ length (bytes_of before)
 
--- the fault of a text within the limit: that of one of its lines, the rest after the last LF among them; or Truncated after
--- them, where the end is missing
+-- the fault of a text within the limit: that of one of its lines, the rest after the last LF among them; or Truncated after them
 abbrev pub HasFaultWithin : List ℕ → List (List ℕ) → List ℕ → Fault → Type 0
 HasFaultWithin text lines rest f =
     HasRefusedLine (lines ++ rest ∷ []) f
     ⊎ ((commands : List DrillCommand) × SpellLegally (lines ++ rest ∷ []) commands × (list_any is_finish commands ≡ false) × (f ≡ fault (place_after lines rest) (length text) Truncated))
 
--- the fault of a text above the limit, by the bytes within it: that of a line that has ended; or the line after these is too
--- long already; or else the text is
+-- the fault of a text above the limit, by the bytes within it: that of a line that has ended; or the line after these, or else the text, is too long
 abbrev pub HasFaultBeyond : List (List ℕ) → List ℕ → Fault → Type 0
 HasFaultBeyond lines rest f =
     HasRefusedLine lines f

@@ -1,5 +1,4 @@
--- Which texts have which commands of a drill file in a profile: the grammar of drill texts, over that of lines (docs/FORMATS.md, Drill lines; The
--- wide profile).
+-- Which texts have which commands in a profile: the grammar of drill texts, over that of lines (docs/FORMATS.md, Drill lines; The wide profile).
 use Rattle.std.specs.Prelude.{◌≡◌, ◌==◌, ℕ, List, [], ◌∷◌, ◌++◌, map, Option, Some}
 use Rattle.std.specs.List.{Contains, flat_map, slice_split}
 use Rattle.std.specs.Option.{option_to_list}
@@ -8,7 +7,7 @@ use Rattle.drill_lines.specs.declared.command.DrillCommand.{DrillCommand}
 use Rattle.drill_lines.specs.declared.command.DrillCommand.TheVariants.{Slot, Finish}
 use Rattle.drill_lines.specs.Lines.{without_end_blanks}
 use Rattle.drill_lines.specs.Grammar.{IsLine}
-use Rattle.drill_lines.specs.Routes.{is_routing}
+use Rattle.drill_lines.specs.Routes.{machine_after}
 use Rattle.drill_lines.specs.RouteGrammar.{IsAlone, IsRoute}
 use Rattle.drill_text.specs.Lookback.{settings_after}
 use Rattle.grid_units.specs.Ascii as ascii
@@ -19,12 +18,12 @@ use Rattle.grid_units.specs.declared.profile.Profile.TheVariants.{Strict, Wide}
 abbrev pub lines_of : List ℕ → List (List ℕ)
 lines_of text = slice_split (λ b. b == ascii.line_feed) text
 
--- after these lines, lines that spell at most one command together, without the blanks at their ends: one by itself, as `METRIC` spells UnitLine(Millimetre);
--- in the wide profile also the four of a route
+-- after these lines, lines that spell at most one command together, without the blanks at their ends: one by itself, or in the wide profile four of a route
 abbrev pub IsEntry : Profile → List (List ℕ) → Settings → List (List ℕ) → Option DrillCommand → Type 0
 IsEntry Strict earlier settings (line ∷ []) spelled = IsLine settings (without_end_blanks line) spelled
-IsEntry Wide earlier settings (line ∷ []) spelled = IsAlone settings (is_routing (map without_end_blanks earlier)) (without_end_blanks line) spelled
-IsEntry Wide earlier settings (a ∷ b ∷ c ∷ d ∷ []) (Some (Slot from to)) = IsRoute settings (without_end_blanks a) (without_end_blanks b) (without_end_blanks c) (without_end_blanks d) from to
+IsEntry Wide earlier settings (line ∷ []) spelled = IsAlone settings (machine_after (map without_end_blanks earlier)) (without_end_blanks line) spelled
+IsEntry Wide earlier settings (a ∷ b ∷ c ∷ d ∷ []) (Some (Slot from to)) =
+    IsRoute settings (machine_after (map without_end_blanks earlier)) (without_end_blanks a) (without_end_blanks b) (without_end_blanks c) (without_end_blanks d) from to
 IsEntry profile earlier settings lines spelled = ⊥
 
 -- The commands that stand before, and then those that the entries spell in order, each by the settings that the commands before it leave.

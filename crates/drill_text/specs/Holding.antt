@@ -55,8 +55,7 @@ pub record StandsBy (reader : DrillReader) (kind : Kind) (keep : Keep) (text : L
   pub sound : failure reader ≡ None
   pub holds : Holds reader.progress kind keep text
 
--- the reader reads in this profile a file whose role says whether its holes are plated, has read this text, which shows no fault, and
--- keeps what was asked for
+-- the reader reads a file whose role is believed in this profile, has read this text, which shows no fault, and keeps what was asked for
 abbrev pub StandsIn : DrillReader → Profile → Keep → List ℕ → Type 0
 StandsIn reader profile keep text = StandsBy reader (plain profile) keep text
 

@@ -1,5 +1,4 @@
--- Laws of drill files: the holes that are listed of their commands are just those that these drill, and the texts that spell commands
--- are just those of the grammar.
+-- Laws of drill files: the holes that are listed of commands are just those that they drill, and texts that spell commands are those of the grammar.
 use Rattle.std.specs.Prelude.{◌≡◌, ◌≤◌, ◌↔◌, ℕ, List, length, Ok}
 use Rattle.grid_units.specs.Holes.{GridHole}
 use Rattle.drill_lines.specs.declared.command.DrillCommand.{DrillCommand}

@@ -1,5 +1,4 @@
--- What the commands before a line say; each definition looks back over their list
--- (docs/FORMATS.md, Drill lines of the four parts; Drill coordinates).
+-- What the commands before a line say; each definition looks back over them (docs/FORMATS.md, Drill lines of the four parts; Drill coordinates).
 use Rattle.std.specs.Prelude.{ℕ, ℤ, Bool, true, false, ◌==◌, List, [], ◌∷◌, Option, None, Some, unwrap_or, if◌then◌else◌}
 use Rattle.std.specs.List.{list_any, flat_map, filter_map}
 use Rattle.grid_units.specs.Lists.{last_set}

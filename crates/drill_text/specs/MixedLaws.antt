@@ -8,8 +8,7 @@ use Rattle.drill_text.specs.Holes.{holes_of}
 use Rattle.drill_text.specs.Plating.{AreCalled, calls_plated, contradiction_rule, own_rule, plated_of, plating_rule}
 use Rattle.drill_text.specs.Profiles.{Kind, ReadsBy, ReadsIn}
 
--- a text is read as a file of some kind of commands just where it is read as these in the profile by its role alone, and none of them breaks the rule
--- that the kind has beside the others
+-- a text is read as commands of a kind of file just where it is read as these by its role alone, and none of them breaks the kind's own rule
 abbrev pub KindsReadTheSame : Type 0
 KindsReadTheSame = (kind : Kind) (text : List ℕ) (commands : List DrillCommand) → (ReadsBy kind text (Ok commands)) ↔ (ReadsIn kind.profile text (Ok commands) × IsLegal (own_rule kind.plating) commands)
 

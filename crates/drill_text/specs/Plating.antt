@@ -93,8 +93,7 @@ abbrev pub calls_unplated : DrillCommand → Bool
 calls_unplated (command.Comment text) = says_unplated text
 calls_unplated _ = false
 
--- a role that calls the holes plated is contradicted where it is said that holes are not plated and never that they are; one that calls them unplated where
--- it is said that holes are plated
+-- a role `plated` is contradicted where it is said that holes are not plated and never that they are; a role `unplated` where it is said that they are
 abbrev pub says_otherwise : Bool → Bool → Bool → Bool
 says_otherwise plated says_plated says_unplated = if plated then says_unplated && not says_plated else says_plated
 

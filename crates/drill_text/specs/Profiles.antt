@@ -1,6 +1,5 @@
--- The commands of a drill text in a profile, or its first fault. Each line is read by those before it, so that four of them can
--- spell one slot; mixed files and unplated ones have a rule more (docs/FORMATS.md, Drill lines; The first fault; The wide profile; Mixed drill
--- files; Unplated drill files).
+-- The commands of a drill text in a profile, or its first fault. Each line is read by those before it; mixed files and unplated ones have a rule more
+-- (docs/FORMATS.md, Drill lines; The first fault; The wide profile; Mixed drill files; Unplated drill files).
 use Rattle.std.specs.Prelude.{◌≡◌, ℕ, suc, ◌+◌, Bool, true, false, nat_lt, List, [], ◌∷◌, ◌++◌, length, take, map, if◌then◌else◌, Option, None, Some, Result, Ok, Err}
 use Rattle.std.specs.List.{list_any}
 use Rattle.grid_units.specs.declared.fault.Reason.{Reason}
@@ -54,8 +53,7 @@ checked_by rule before (Some c) = add_unless (rule before c) before c
 abbrev pub commands_with : List DrillCommand → Option DrillCommand → Result (List DrillCommand) Reason
 commands_with before = checked_by broken_rule before
 
--- one more line after these, which spell these commands: TooLong above 1,048,576 bytes; else it is read by what stands before it, and
--- its command is judged
+-- one more line after these, which spell these commands: TooLong above 1,048,576 bytes; else it is read by what stands before it, and judged
 unfoldable pub step_in : Kind → List (List ℕ) → List DrillCommand → List ℕ → Result (List DrillCommand) Reason
 step_in kind earlier before line =
     if nat_lt line_limit (length line) then Err TooLong

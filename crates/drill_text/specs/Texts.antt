@@ -24,8 +24,7 @@ spelled_after before (line ∷ lines) = meaning (settings_after before) (without
 abbrev pub AreWithinLimit : List (List ℕ) → Type 0
 AreWithinLimit lines = AllByRecursion (λ line. length line ≤ line_limit) lines
 
--- A text spells these commands: its lines, with the rest after the last LF, spell them in order, its end is one of them, and
--- neither a line nor the text is too long.
+-- A text spells these commands: its lines, with the rest after the last LF, spell them in order, Finish is one of them, and nothing is too long.
 pub record SpellsText (text : List ℕ) (commands : List DrillCommand) : Type 0 where
   pub lines : List (List ℕ)
   pub rest : List ℕ

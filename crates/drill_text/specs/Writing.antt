@@ -31,8 +31,7 @@ abbrev pub is_after_end : Part → Bool
 is_after_end part.After = true
 is_after_end _ = false
 
--- A list is sayable: comments, Start, commands of the header, HeaderEnd, commands of the body and Finish, each one that
--- some line of its part spells.
+-- A list is sayable: comments, Start, commands of the header, HeaderEnd, those of the body and Finish, each one that a line of its part spells.
 abbrev pub drill_sayable : List DrillCommand → Bool
 drill_sayable commands = are_sayable part.Before commands && is_after_end (part_from part.Before commands)
 

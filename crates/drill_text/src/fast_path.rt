@@ -78,9 +78,7 @@ pub(crate) fn leading_hit(settings: &Settings, bytes: &[u8]) -> Option<(Coordina
     ensures { IfSome result (λ hit. HasLeadingHit settings.now hit.0 hit.1 bytes.now) }
 {
     let (x, y, rest) = leading_point(settings, bytes);
-    let Some(blanks) = line_end_blanks(rest) else {
-        return None;
-    };
+    let blanks = line_end_blanks(rest)?;
     let len = bytes.len().saturating_sub(rest.len());
     if len == 0 {
         return None;

@@ -131,8 +131,9 @@ fn parse_line(
 }
 
 impl Progress {
-    ghost use Rattle.std.specs.Prelude.{false, [], ◌∷◌, ◌++◌, List};
+    ghost use Rattle.std.specs.Prelude.{[], ◌∷◌, ◌++◌, List};
     ghost use Rattle.drill_lines.specs.declared.command.Part.TheVariants as part;
+    ghost use Rattle.drill_lines.specs.declared.route.Machine.TheVariants as machine;
     ghost use Rattle.drill_lines.specs.declared.route.Route.TheVariants as route;
     ghost use Rattle.drill_text.specs.Inner.FastPath.{HasLeadingHit};
     ghost use Rattle.drill_text.specs.Holding.{Advances, Refuses, RefusesText, Holds};
@@ -218,7 +219,7 @@ impl Progress {
     fn take_hit(&mut self, point: Coordinates, len: usize, bytes: &[u8]) -> Result<(), Fail>
         requires leads { HasLeadingHit self.old.state.settings point len bytes.now }
         requires body { self.old.state.settings.part ≡ part.Body }
-        requires drilling { self.old.reader.route ≡ route.Free false }
+        requires drilling { self.old.reader.route ≡ route.Free machine.Drilling }
         requires empty { self.old.line.items ≡ [] }
         requires room { self.old.offset + length bytes.now ≤ text_limit }
         ensures offset { OnOk result (self.new.offset ≡ self.old.offset + (len + 1)) }

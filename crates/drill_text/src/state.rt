@@ -474,10 +474,7 @@ impl DrillState {
 fn picked(tools: &IndexMap<u16, Tool>, tool: Option<u16>) -> Option<Tool>
     ensures { result ≡ option_and_then (λ number. get nat_eq tools.now number) tool }
 {
-    match tool {
-        Some(number) => tools.get(&number).copied(),
-        None => None,
-    }
+    tools.get(&tool?).copied()
 }
 
 /// The diameter in pm of a tool that was picked, or the first rule that it breaks.

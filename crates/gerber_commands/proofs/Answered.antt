@@ -26,10 +26,10 @@ use Rattle.gerber_commands.specs.declared.command.Template.TheVariants as templa
 use Rattle.gerber_commands.specs.Numbers.{nat_of}
 use Rattle.gerber_commands.specs.Rows.{Meaning, Row, first_match, field}
 use Rattle.gerber_commands.specs.Negative.{is_negative_image}
-use Rattle.gerber_commands.specs.Pieces.{split_by, last_byte, before_last, refused_format_row, format, format_row, unit_piece_row, is_name_start, is_name_byte, is_name, standard_template, min_sizes, max_sizes, all_values, are_sizes, sizes_of, aperture_number, define_standard, define_named, define_template, before_comma, after_comma, define, definition, define_row, macro_of, macro_definition, macro_row, polarity_row, mirror_row, run_after, turn, scale, transform_row, block_fields, repeat, repeat_fields, repeat_start, repeat_row, file_attribute, attribute, removal, has_value, is_omitted_or, axes_equal, no_effect_piece_row, neutral_axes_row, negative_row, deprecated_piece_row, block_aperture_row, pieces_from_attributes, pieces_from_polarity, pieces, piece, extended_meaning}
+use Rattle.gerber_commands.specs.Pieces.{split_by, last_byte, before_last, refused_format_row, format, format_row, unit_piece_row, is_name_start, is_name_byte, is_name, standard_template, min_sizes, max_sizes, all_values, are_sizes, sizes_of, aperture_number, define_standard, define_named, define_template, before_comma, after_comma, define, definition, define_row, macro_of, macro_definition, macro_row, polarity_row, mirror_row, run_after, turn, scale, transform_row, block_fields, repeat, repeat_fields, repeat_start, repeat_row, file_attribute, attribute, removal, has_value, is_omitted_or, axes_equal, no_effect_piece_row, neutral_axes_row, negative_row, deprecated_piece_row, block_aperture_row, pieces_from_attributes, pieces_from_polarity, pieces, piece}
 use Rattle.gerber_commands.specs.PieceGrammar.{HasNo, fixed_pieces, standards, IsMacroName, IsTemplate, IsMacro, SpellsOne, IsOmittedOr, neutral_values, HasNoEffect, IsPiece}
 use Rattle.gerber_commands.specs.PieceGrammar as grammar
-use Rattle.gerber_commands.specs.PieceLaws.{WrittenIsAnswered, PiecesSpellOneList, ItemsAreAnswered}
+use Rattle.gerber_commands.specs.PieceLaws.{WrittenIsAnswered, PiecesSpellOneList}
 use Rattle.gerber_commands.proofs.RowLemmas.{bytes_are, block_fields_are, IsPlain}
 use Rattle.gerber_commands.proofs.NumberRuns.{nat_digits, decimal_numbers, parts_divided, none_passes, no_x}
 use Rattle.gerber_commands.proofs.WrittenPieces.{macro_first}
@@ -422,11 +422,8 @@ one_list text a b h k = same a b (sym (written_is_answered text a h) ∙ written
     same : (x y : List Command) → ◌≡◌ {A = Meaning} (Ok x) (Ok y) → x ≡ y
     same x y e = cc
 
--- and with its `*`
-pub items_are_answered : ItemsAreAnswered
-unfolding extended_meaning
-items_are_answered text cs h =
+-- what is read of a text before its `*`
+pub with_end_answered : (reads : List ℕ → Meaning) (text : List ℕ) → cond (bytes_eq (last_byte (text ++ codes "*")) (codes "*")) (reads (before_last (text ++ codes "*"))) (Err BadWord) ≡ reads text
+with_end_answered reads text =
     let len : length text ≡ length (text ++ codes "*") - 1 = omega (arith, length-append text (codes "*")) in
-    let last : last_byte (text ++ codes "*") ≡ codes "*" = drop_at text (codes "*") _ len in
-    let before : before_last (text ++ codes "*") ≡ text = take_at text (codes "*") _ len in
-    (λ i. cond (bytes_eq (last i) (codes "*")) (piece (before i)) (Err BadWord)) ∙ written_is_answered text cs h
+    λ i. cond (bytes_eq (drop_at text (codes "*") _ len i) (codes "*")) (reads (take_at text (codes "*") _ len i)) (Err BadWord)

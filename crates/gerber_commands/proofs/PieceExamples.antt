@@ -38,7 +38,7 @@ dark = inr (refl, inl (2, omega arith, refl))
 
 -- in the wide profile alone
 pub clear : IsPieceIn Wide (codes "LPC") (Clear ∷ [])
-clear = inl (refl, refl)
+clear = inl (inl (refl, refl))
 
 pub mirrored : IsPiece (codes "LMXY") (Mirror true true ∷ [])
 mirrored = inr (refl, inl (7, omega arith, refl))

@@ -25,12 +25,12 @@ use Rattle.gerber_commands.specs.declared.command.Standard.{Standard}
 use Rattle.gerber_commands.specs.declared.command.Standard.TheVariants.{Circle, Rectangle, Obround, Polygon}
 use Rattle.gerber_commands.specs.declared.command.Template.TheVariants as templates
 use Rattle.gerber_commands.specs.Numbers.{nat_of}
-use Rattle.gerber_commands.specs.Rows.{first_match, field}
+use Rattle.gerber_commands.specs.Rows.{Meaning, first_match, field}
 use Rattle.gerber_commands.specs.Negative.{is_negative_image}
-use Rattle.gerber_commands.specs.Pieces.{split_by, last_byte, before_last, refused_format_row, format, format_fields, format_row, unit_piece_row, is_name, standard_template, min_sizes, max_sizes, all_values, are_sizes, sizes_of, aperture_number, define_standard, define_named, define_template, before_comma, after_comma, define, definition, define_row, macro_of, macro_definition, polarity_row, mirror_row, run_after, turn, scale, transform_row, block_fields, repeat, repeat_fields, repeat_start, repeat_row, file_attribute, attribute, removal, has_value, is_omitted_or, is_zero_rotation, axes_equal, has_no_effect, no_effect_piece_row, neutral_axes_row, negative_row, deprecated_piece_row, block_aperture_row, pieces, piece, extended_meaning}
+use Rattle.gerber_commands.specs.Pieces.{split_by, last_byte, before_last, refused_format_row, format, format_fields, format_row, unit_piece_row, is_name, standard_template, min_sizes, max_sizes, all_values, are_sizes, sizes_of, aperture_number, define_standard, define_named, define_template, before_comma, after_comma, define, definition, define_row, macro_of, macro_definition, polarity_row, mirror_row, run_after, turn, scale, transform_row, block_fields, repeat, repeat_fields, repeat_start, repeat_row, file_attribute, attribute, removal, has_value, is_omitted_or, is_zero_rotation, axes_equal, has_no_effect, no_effect_piece_row, neutral_axes_row, negative_row, deprecated_piece_row, block_aperture_row, pieces, piece}
 use Rattle.gerber_commands.specs.PieceGrammar.{HasNo, fixed_pieces, standards, IsMacroName, IsTemplate, IsMacro, SpellsOne, IsOmittedOr, neutral_values, HasNoEffect, IsPiece}
 use Rattle.gerber_commands.specs.PieceGrammar as grammar
-use Rattle.gerber_commands.specs.PieceLaws.{AnswersAreWritten, ItemsAreWritten}
+use Rattle.gerber_commands.specs.PieceLaws.{AnswersAreWritten}
 use Rattle.gerber_commands.proofs.RowLemmas.{guarded, refused, allowed, bytes_are, block_fields_are, begins, some_of, MeaningIsWritten, RowIsWritten, answer_written, refusal_written, one_written, idle_written, fixed_written, cond_written, bind_written, first_written, no_row, row_is, row_refuses, row_cond, row_map, row_or, row_literal}
 use Rattle.gerber_commands.proofs.SplitLemmas.{parts_all}
 use Rattle.grid_units.proofs.BoolLemmas.{both_true, not_true, not_false}
@@ -431,11 +431,15 @@ macro_of_written (name ∷ pieces) cs h e =
     let k = both_true (is_name name) (not (is_some (standard_template name))) g.0 in
     (name, pieces, (k.0, not_standard name (is_none (standard_template name) k.1)), All-from_recursion (HasNo 42) pieces h.1, refl, sym g.1)
 
+-- a text is divided into parts without the byte
+pub parts_without : (text : List ℕ) → AllByRecursion (HasNo 42) (split_by 42 text)
+parts_without text = all_have_no 42 (split_by 42 text) (parts_all (λ b. not (eqb b 42)) 42 text ∙ all_divided 42 text)
+
 macro_written : (rest : List ℕ) (cs : List Command) → macro_definition rest ≡ Ok cs → IsMacro (codes "AM" ++ rest) cs
 unfolding macro_definition
 macro_written rest cs e =
     subst (λ (t : List ℕ). IsMacro (codes "AM" ++ t) cs) (join_with_byte-slice_split 42 rest)
-    (macro_of_written (split_by 42 rest) cs (all_have_no 42 (split_by 42 rest) (parts_all (λ b. not (eqb b 42)) 42 rest ∙ all_divided 42 rest)) e)
+    (macro_of_written (split_by 42 rest) cs (parts_without rest) e)
 
 -- a text that begins `AM` fits no row before that of macros
 pub macro_first : (rest : List ℕ) → first_match (pieces (65 ∷ 77 ∷ rest)) ≡ macro_definition rest
@@ -497,9 +501,9 @@ pub answers_are_written : AnswersAreWritten
 unfolding piece
 answers_are_written text cs e = piece_by text cs (list_any (λ b. eqb b 42) text) (strip_prefix (codes "AM") text) refl refl e
 
--- and what stands between two `%`
-pub items_are_written : ItemsAreWritten
-unfolding extended_meaning
-items_are_written item cs e =
-    let a = allowed (bytes_eq (last_byte item) (codes "*")) (piece (before_last item)) cs BadWord e in
-    (before_last item, sym (take-append-drop (length item - 1) item) ∙ ap (λ (l : List ℕ). before_last item ++ l) (bytes_are (last_byte item) (codes "*") a.0), answers_are_written (before_last item) cs a.1)
+-- so is what stands between two `%`, where its text before the last `*` is so written
+pub with_end_written : (reads : List ℕ → Meaning) (Is : List ℕ → List Command → Type 0) → ((text : List ℕ) (cs : List Command) → reads text ≡ Ok cs → Is text cs) → (item : List ℕ) (cs : List Command)
+    → cond (bytes_eq (last_byte item) (codes "*")) (reads (before_last item)) (Err BadWord) ≡ Ok cs → (text : List ℕ) × (item ≡ text ++ codes "*") × Is text cs
+with_end_written reads Is written item cs e =
+    let a = allowed (bytes_eq (last_byte item) (codes "*")) (reads (before_last item)) cs BadWord e in
+    (before_last item, sym (take-append-drop (length item - 1) item) ∙ ap (λ (l : List ℕ). before_last item ++ l) (bytes_are (last_byte item) (codes "*") a.0), written (before_last item) cs a.1)

@@ -1,7 +1,7 @@
 -- What the rows of extended items and their grammar say of each other.
-use Rattle.std.specs.Prelude.{◌≡◌, ℕ, List, ◌++◌, Ok, codes}
+use Rattle.std.specs.Prelude.{◌≡◌, ℕ, List, Ok}
 use Rattle.gerber_commands.specs.declared.command.Command.{Command}
-use Rattle.gerber_commands.specs.Pieces.{piece, extended_meaning}
+use Rattle.gerber_commands.specs.Pieces.{piece}
 use Rattle.gerber_commands.specs.PieceGrammar.{IsPiece}
 
 -- what the rows answer is so written
@@ -15,11 +15,3 @@ WrittenIsAnswered = (text : List ℕ) (commands : List Command) → IsPiece text
 -- a piece spells at most one list of commands
 abbrev pub PiecesSpellOneList : Type 0
 PiecesSpellOneList = (text : List ℕ) (a b : List Command) → IsPiece text a → IsPiece text b → a ≡ b
-
--- what stands between two `%` and spells commands is a piece so written, and `*`
-abbrev pub ItemsAreWritten : Type 0
-ItemsAreWritten = (item : List ℕ) (commands : List Command) → extended_meaning item ≡ Ok commands → (text : List ℕ) × (item ≡ text ++ codes "*") × IsPiece text commands
-
--- a piece so written, and `*`, spells its commands
-abbrev pub ItemsAreAnswered : Type 0
-ItemsAreAnswered = (text : List ℕ) (commands : List Command) → IsPiece text commands → extended_meaning (text ++ codes "*") ≡ Ok commands

@@ -1,5 +1,5 @@
 -- Rows of the tables of words and of extended items (docs/FORMATS.md, How a row fits and is read).
-use Rattle.std.specs.Prelude.{ℕ, Bool, ◌==◌, List, [], ◌∷◌, drop, if◌then◌else◌, Option, None, Some, Result}
+use Rattle.std.specs.Prelude.{ℕ, Bool, ◌==◌, List, [], ◌∷◌, ◌++◌, drop, if◌then◌else◌, Option, None, Some, Result}
 use Rattle.std.specs.List.{prefix_len, take_while}
 use Rattle.grid_units.specs.declared.fault.Reason.{Reason}
 use Rattle.grid_units.specs.declared.fault.Reason.TheVariants.{BadWord}
@@ -7,8 +7,10 @@ use Rattle.grid_units.specs.Rows.{RowOf, first_match_or}
 use Rattle.gerber_commands.specs.declared.command.Command.{Command}
 use Rattle.gerber_commands.specs.declared.command.Command.TheVariants.{Mode}
 use Rattle.gerber_commands.specs.declared.command.Interpolation.{Interpolation}
+use Rattle.gerber_commands.specs.declared.command.ItemParts.{ItemParts}
+use Rattle.gerber_commands.specs.declared.command.ItemParts.TheVariants.{Few, Several}
 
--- what an item spells: no, one or two commands, or the reason for its refusal
+-- what an item spells, or the reason for its refusal
 abbrev pub Meaning : Type 0
 Meaning = Result (List Command) Reason
 
@@ -34,3 +36,8 @@ modes_of (Some mode) = Mode mode ∷ []
 abbrev pub commands_of : Option Command → List Command
 commands_of None = []
 commands_of (Some command) = command ∷ []
+
+-- what an item spells, by its parts: an interpolation comes before the other command
+abbrev pub commands_in : ItemParts → List Command
+commands_in (Few mode command) = modes_of mode ++ commands_of command
+commands_in (Several commands) = commands.items

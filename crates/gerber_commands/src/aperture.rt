@@ -89,7 +89,7 @@ fn separator_at(at: u8, text: &[u8]) -> Option<usize>
 }
 
 /// The first part of a text, and what follows the byte that divides it.
-fn split_first(at: u8, text: &[u8]) -> (&[u8], Option<&[u8]>)
+pub(crate) fn split_first(at: u8, text: &[u8]) -> (&[u8], Option<&[u8]>)
     ensures parts { split_by at text.now ≡ result.0.now ∷ split_by_if at (option_copied result.1) }
     ensures shorter { IfSome result.1 (λ rest. length rest.now < length text.now) }
 {

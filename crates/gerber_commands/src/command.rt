@@ -287,37 +287,44 @@ pub(crate) fn item_answer(answer: Result<ItemCommands, Reason>) -> Result<ItemCo
     Ok(answer?)
 }
 
-/// What one item spells: an interpolation, another command, both or nothing. Contracts see the list of
+/// What an item spells, by its parts.
+#[derive(Drop)]
+pub enum ItemParts {
+    /// An interpolation and another command, each if the item spells one.
+    Few(Option<Interpolation>, Option<Command>),
+    /// What several pieces spell one after the other, which only the wide profile reads.
+    Several(Vec<Command>),
+}
+
+/// What one item spells: an interpolation, another command, both or nothing, or what its pieces spell. Contracts see the list of
 /// the commands.
 #[derive(Drop)]
 pub struct ItemCommands {
-    mode: Option<Interpolation>,
-    command: Option<Command>,
+    parts: ItemParts,
 }
 
 impl Model for ItemCommands {
-    ghost use Rattle.std.specs.Prelude.{List, ◌++◌};
+    ghost use Rattle.std.specs.Prelude.{List};
     ghost use Rattle.gerber_commands.specs.declared.command.Command.{Command};
 
     ghost Value = { List Command };
 
-    ghost use Rattle.gerber_commands.specs.Rows.{modes_of, commands_of};
+    ghost use Rattle.gerber_commands.specs.Rows.{commands_in};
 
-    ghost view = { λ s. modes_of s.mode ++ commands_of s.command };
+    ghost view = { λ s. commands_in s.parts };
 }
 
 impl ItemCommands {
-    ghost use Rattle.std.specs.Prelude.{◌≡◌, [], ◌∷◌, ◌++◌};
+    ghost use Rattle.std.specs.Prelude.{◌≡◌, [], ◌∷◌, ◌++◌, OnOk};
     ghost use Rattle.gerber_commands.specs.declared.command.Command.TheVariants.{Mode};
-    ghost use Rattle.gerber_commands.specs.Rows.{modes_of, commands_of};
+    ghost use Rattle.gerber_commands.specs.Rows.{modes_of, commands_in};
 
     /// An item without effect, which spells no command.
     pub fn nothing() -> Self
         ensures { result ≡ [] }
     {
         ItemCommands {
-            mode: None,
-            command: None,
+            parts: ItemParts::Few(None, None),
         }
     }
 
@@ -326,8 +333,7 @@ impl ItemCommands {
         ensures { result ≡ Mode mode ∷ [] }
     {
         ItemCommands {
-            mode: Some(mode),
-            command: None,
+            parts: ItemParts::Few(Some(mode), None),
         }
     }
 
@@ -335,10 +341,7 @@ impl ItemCommands {
     pub fn one(command: Command) -> Self
         ensures { result ≡ command ∷ [] }
     {
-        ItemCommands {
-            mode: None,
-            command: Some(command),
-        }
+        ItemCommands::both(None, command)
     }
 
     /// An item with a command, optionally after an interpolation.
@@ -346,16 +349,45 @@ impl ItemCommands {
         ensures { result ≡ modes_of mode ++ command ∷ [] }
     {
         ItemCommands {
-            mode,
-            command: Some(command),
+            parts: ItemParts::Few(mode, Some(command)),
         }
     }
 
-    /// The interpolation and the other command, each if the item spells one.
-    pub fn into_parts(self) -> (Option<Interpolation>, Option<Command>)
-        ensures { self ≡ modes_of result.0 ++ commands_of result.1 }
+    /// An item of several pieces, which spell these commands one after the other.
+    pub fn several(commands: Vec<Command>) -> Self
+        ensures { result ≡ commands.items }
     {
-        let ItemCommands { mode, command } = self;
-        (mode, command)
+        ItemCommands {
+            parts: ItemParts::Several(commands),
+        }
+    }
+
+    /// What the item spells, by its parts.
+    pub fn into_parts(self) -> ItemParts
+        ensures { self ≡ commands_in result }
+    {
+        self.parts
+    }
+
+    /// Adds the commands to others.
+    ///
+    /// # Errors
+    ///
+    /// An `AllocError` where there is no memory for them.
+    pub fn append_to(self, commands: &mut Vec<Command>) -> Result<(), AllocError>
+        ensures { OnOk result (commands.new.items ≡ commands.old.items ++ self) }
+    {
+        match self.parts {
+            ItemParts::Few(mode, command) => {
+                if let Some(mode) = mode {
+                    commands.push(Command::Mode(mode))?;
+                }
+                if let Some(command) = command {
+                    commands.push(command)?;
+                }
+            }
+            ItemParts::Several(mut more) => commands.append(&mut more)?,
+        }
+        Ok(())
     }
 }

@@ -5,7 +5,6 @@ ghost use Rattle.std.specs.List.{prefix_len};
 ghost use Rattle.std.specs.Option.{option_copied};
 ghost use Rattle.grid_units.specs.Rows.{strip_prefix};
 ghost use Rattle.gerber_commands.specs.Rows.{field};
-ghost use Rattle.gerber_commands.specs.Negative.{first_field, after_spaces};
 ghost use Rattle.grid_units.specs.Numbers.{is_digit, is_number_char};
 
 use grid_units::numbers::{digit_run_len, number_run_len};

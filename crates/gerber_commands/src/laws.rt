@@ -1,13 +1,12 @@
 //! Laws of the grammar of extended items. A call of one does nothing; its clauses are what is proved.
 
-ghost use Rattle.gerber_commands.specs.PieceLaws.{AnswersAreWritten, ItemsAreAnswered, ItemsAreWritten, PiecesSpellOneList, WrittenIsAnswered};
+ghost use Rattle.gerber_commands.specs.PieceLaws.{AnswersAreWritten, PiecesSpellOneList, WrittenIsAnswered};
 ghost use Rattle.gerber_commands.specs.Profiles.{ItemsAreAnsweredIn, ItemsAreWrittenIn, WideReadsMore};
 ghost use Rattle.gerber_commands.specs.WordLaws.{SpellingsAreUnique, WordsAreWritten, WrittenWordsAreRead};
 
 /// What the rows answer is so written: a piece that they give commands is one of the grammar for just these.
 pub fn written_pieces()
-    ensures piece { AnswersAreWritten }
-    ensures item { ItemsAreWritten }
+    ensures { AnswersAreWritten }
 {}
 
 /// What is so written the rows answer: a piece of the grammar for some commands spells just these. So it is written
@@ -15,7 +14,6 @@ pub fn written_pieces()
 pub fn answered_pieces()
     ensures piece { WrittenIsAnswered }
     ensures unique { PiecesSpellOneList }
-    ensures item { ItemsAreAnswered }
 {}
 
 /// In each profile an item spells commands just where it is a piece of the grammar for these there, and `*`.

@@ -14,7 +14,7 @@ mod word;
 pub use aperture::{is_name, max_sizes, min_sizes, standard_template};
 pub use canonical::write_item;
 pub use command::{
-    Action, AttributeKind, Boxed, Command, Format, Interpolation, ItemCommands, Pieces,
+    Action, AttributeKind, Boxed, Command, Format, Interpolation, ItemCommands, ItemParts, Pieces,
     QuadrantMode, Sizes, Standard, StepRepeat, Template,
 };
 pub use laws::{

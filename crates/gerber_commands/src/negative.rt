@@ -2,40 +2,27 @@
 
 ghost use Rattle.std.specs.Prelude.{◌≡◌, ◌==◌};
 ghost use Rattle.std.specs.List.{list_any};
-ghost use Rattle.gerber_commands.specs.Negative.{first_field, is_negative_image, after_spaces, is_negative_comment};
+ghost use Rattle.gerber_commands.specs.Negative.{is_negative_image, is_negative_comment};
 
 use crate::fields::strip_prefix;
 use grid_units::numbers::{len_before, repeat_len};
-
-/// The text up to the first comma.
-fn first_field(text: &[u8]) -> &[u8]
-    ensures { result.now ≡ first_field text.now }
-{
-    text.split_at(len_before(b',', text)).0
-}
 
 /// Whether the text of a file attribute makes the image negative (Gerber format, .FilePolarity).
 pub fn is_negative_image(attribute: &[u8]) -> bool
     ensures { result ≡ is_negative_image attribute.now }
 {
     match strip_prefix(b".FilePolarity,", attribute) {
-        Some(value) => first_field(value) == b"Negative".as_slice(),
+        Some(value) => value.split_at(len_before(b',', value)).0 == b"Negative".as_slice(),
         None => false,
     }
-}
-
-/// The text without the spaces at its start.
-fn after_spaces(text: &[u8]) -> &[u8]
-    ensures { result.now ≡ after_spaces text.now }
-{
-    text.split_at(repeat_len(b' ', text)).1
 }
 
 /// Whether the text of a comment holds such a file attribute.
 pub fn is_negative_comment(text: &[u8]) -> bool
     ensures { result ≡ is_negative_comment text.now }
 {
-    match strip_prefix(b"#@! TF", after_spaces(text)) {
+    let (_spaces, rest) = text.split_at(repeat_len(b' ', text));
+    match strip_prefix(b"#@! TF", rest) {
         Some(attribute) => is_negative_image(attribute),
         None => false,
     }

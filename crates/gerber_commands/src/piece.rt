@@ -1,19 +1,17 @@
 //! Extended items: the rows of the table of pieces, in its order.
 
-ghost use Rattle.std.specs.Prelude.{◌≡◌, ◌==◌, ◌||◌, ◌&&◌, ℤ, not, is_some, unwrap_or, [], ◌++◌, IfSome, IfNone, codes, true, false};
+ghost use Rattle.std.specs.Prelude.{◌≡◌, ◌==◌, ◌||◌, ◌&&◌, ℤ, not, is_some, unwrap_or, [], ◌++◌, IfSome, IfNone, codes, map, true, false};
 ghost use Rattle.std.specs.Str.{bytes_eq};
 ghost use Rattle.std.specs.List.{list_all};
 ghost use Rattle.std.specs.Option.{option_copied, option_map};
-ghost use Rattle.grid_units.specs.Results.{both, Gives};
-ghost use Rattle.grid_units.specs.Numbers.{is_number_char, is_digit, parse_decimal};
-ghost use Rattle.gerber_commands.specs.Numbers.{nat_of};
+ghost use Rattle.grid_units.specs.Results.{Gives};
+ghost use Rattle.grid_units.specs.Numbers.{is_number_char, is_digit};
 ghost use Rattle.grid_units.specs.Rows.{strip_prefix};
 ghost use Rattle.gerber_commands.specs.Rows.{first_match};
-ghost use Rattle.grid_units.specs.declared.profile.Profile.TheVariants.{Wide};
-ghost use Rattle.gerber_commands.specs.Profiles.{extended_in};
-ghost use Rattle.gerber_commands.specs.Pieces.{refused_format_row, format, format_fields, format_row, unit_piece_row, polarity_row, mirror_row, run_after, turn, scale, transform_row, block_fields, repeat, repeat_start, repeat_row, file_attribute, attribute, removal, is_omitted_or, is_zero_rotation, axes_equal, has_no_effect, no_effect_piece_row, neutral_axes_row, negative_row, deprecated_piece_row, block_aperture_row, deprecated_pieces, pieces_from_attributes, pieces_from_polarity, has_several_pieces, last_byte, before_last, pieces, piece, extended_meaning};
+ghost use Rattle.gerber_commands.specs.Profiles.{extended_in, piece_among, spelled_in_turn, wide_piece, wide_pieces};
+ghost use Rattle.gerber_commands.specs.Pieces.{refused_format_row, format, format_fields, format_row, unit_piece_row, polarity_row, mirror_row, run_after, turn, scale, transform_row, block_fields, repeat, repeat_start, repeat_row, file_attribute, attribute, removal, is_omitted_or, is_zero_rotation, axes_equal, has_no_effect, no_effect_piece_row, neutral_axes_row, negative_row, deprecated_piece_row, block_aperture_row, deprecated_pieces, pieces_from_attributes, pieces_from_polarity, has_several_pieces, last_byte, before_last, pieces, piece, extended_meaning, split_by};
 
-use crate::aperture::{read_define, read_macro};
+use crate::aperture::{read_define, read_macro, split_first};
 use crate::command::{
     AttributeKind, Command, Format, ItemCommands, ItemRow, StepRepeat, item_answer,
 };
@@ -163,20 +161,6 @@ fn read_transform(text: &[u8]) -> ItemRow
     }
 }
 
-/// The counts of columns and rows.
-fn counts_of(x: &[u8], y: &[u8]) -> Result<(u32, u32), Reason>
-    ensures { result ≡ both (nat_of x.now) (nat_of y.now) }
-{
-    both(read_nat(x), read_nat(y))
-}
-
-/// The steps along x and y.
-fn steps_of(i: &[u8], j: &[u8]) -> Result<(Dec, Dec), Reason>
-    ensures { result ≡ both (parse_decimal i.now) (parse_decimal j.now) }
-{
-    both(Dec::read(i), Dec::read(j))
-}
-
 /// The counts of columns and rows, and the steps along x and y.
 type BlockFields = ((u32, u32), (Dec, Dec));
 
@@ -185,7 +169,8 @@ type BlockFields = ((u32, u32), (Dec, Dec));
 fn block_fields(x: &[u8], y: &[u8], i: &[u8], j: &[u8]) -> Result<BlockFields, Reason>
     ensures { result ≡ block_fields x.now y.now i.now j.now }
 {
-    both(counts_of(x, y), steps_of(i, j))
+    let counts = both(read_nat(x), read_nat(y));
+    both(counts, both(Dec::read(i), Dec::read(j)))
 }
 
 /// A step and repeat block with these counts and steps.
@@ -450,12 +435,19 @@ fn read_pieces(alloc: Global, text: &[u8]) -> Result<ItemCommands, ItemFail>
     }
 }
 
+/// Whether there is more than one piece, and no macro is defined.
+fn has_several_pieces(text: &[u8]) -> bool
+    ensures { result ≡ has_several_pieces text.now }
+{
+    contains(text, b'*') && !begins(b"AM", text)
+}
+
 /// Reads what stands before the last `*`: one piece, or a macro with its pieces.
 #[tactic(auto, unfolding(crate::specs::Pieces::piece))]
 fn read_piece(alloc: Global, text: &[u8]) -> Result<ItemCommands, ItemFail>
     ensures { Gives result (piece text.now) }
 {
-    if contains(text, b'*') && !begins(b"AM", text) {
+    if has_several_pieces(text) {
         return Err(ItemFail::Refused(Reason::SeveralInOne));
     }
     read_pieces(alloc, text)
@@ -472,28 +464,56 @@ fn before_asterisk(text: &[u8]) -> Option<&[u8]>
     }
 }
 
-/// Reads what stands between the two `%` of an extended item in the strict profile.
-#[tactic(auto, unfolding(crate::specs::Pieces::extended_meaning))]
-pub fn read_extended(alloc: Global, text: &[u8]) -> Result<ItemCommands, ItemFail>
-    ensures { Gives result (extended_meaning text.now) }
+/// Reads one piece in the wide profile, where `LPC` is clear polarity and `ICAS` spells nothing.
+#[tactic(auto, unfolding(crate::specs::Profiles::wide_piece))]
+fn read_wide_piece(alloc: Global, text: &[u8]) -> Result<ItemCommands, ItemFail>
+    ensures { Gives result (wide_piece text.now) }
 {
-    match before_asterisk(text) {
-        Some(prefix) => read_piece(alloc, prefix),
-        None => Err(ItemFail::Refused(Reason::BadWord)),
+    match text {
+        b"LPC" => Ok(ItemCommands::one(Command::Clear)),
+        b"ICAS" => Ok(ItemCommands::nothing()),
+        _ => read_pieces(alloc, text),
     }
 }
 
-/// Reads what stands between the two `%` of an extended item in the wide profile, where `LPC*` is clear polarity.
-fn read_wide(alloc: Global, text: &[u8]) -> Result<ItemCommands, ItemFail>
-    ensures { Gives result (extended_in Wide text.now) }
+/// Reads a piece that stands among others, so it defines no macro.
+#[tactic(auto, unfolding(crate::specs::Profiles::piece_among))]
+fn read_piece_among(alloc: Global, text: &[u8]) -> Result<ItemCommands, ItemFail>
+    ensures { Gives result (piece_among text.now) }
 {
-    if text == b"LPC*".as_slice() {
-        return Ok(ItemCommands::one(Command::Clear));
+    if begins(b"AM", text) {
+        return Err(ItemFail::Refused(Reason::BadWord));
     }
-    read_extended(alloc, text)
+    read_wide_piece(alloc, text)
+}
+
+/// Reads pieces one after the other, each as if it stood alone.
+fn read_in_turn(alloc: Global, text: &[u8]) -> Result<ItemCommands, ItemFail>
+    ensures { Gives result (spelled_in_turn (map piece_among (split_by 42 text.now))) }
+{
+    let mut commands = Vec::new(alloc);
+    let mut left = Some(text);
+    while let Some(rest) = left {
+        let (piece, more) = split_first(b'*', rest);
+        read_piece_among(alloc, piece)?.append_to(&mut commands)?;
+        left = more;
+    }
+    Ok(ItemCommands::several(commands))
+}
+
+/// Reads what stands before the last `*` in the wide profile: pieces one after the other, a macro with its pieces, or one piece.
+#[tactic(auto, unfolding(crate::specs::Profiles::wide_pieces))]
+fn read_wide_pieces(alloc: Global, text: &[u8]) -> Result<ItemCommands, ItemFail>
+    ensures { Gives result (wide_pieces text.now) }
+{
+    if has_several_pieces(text) {
+        return read_in_turn(alloc, text);
+    }
+    read_wide_piece(alloc, text)
 }
 
 /// Reads what stands between the two `%` of an extended item in a profile.
+#[tactic(auto, unfolding(crate::specs::Pieces::extended_meaning))]
 pub fn read_extended_in(
     alloc: Global,
     profile: Profile,
@@ -501,8 +521,11 @@ pub fn read_extended_in(
 ) -> Result<ItemCommands, ItemFail>
     ensures { Gives result (extended_in profile text.now) }
 {
+    let Some(prefix) = before_asterisk(text) else {
+        return Err(ItemFail::Refused(Reason::BadWord));
+    };
     match profile {
-        Profile::Strict => read_extended(alloc, text),
-        Profile::Wide => read_wide(alloc, text),
+        Profile::Strict => read_piece(alloc, prefix),
+        Profile::Wide => read_wide_pieces(alloc, prefix),
     }
 }

@@ -5,7 +5,7 @@ ghost use Rattle.std.specs.List.{list_any, list_all, prefix_len};
 ghost use Rattle.std.specs.Option.{option_copied, option_map};
 ghost use Rattle.grid_units.specs.Results.{both, Gives};
 ghost use Rattle.grid_units.specs.Numbers.{is_digit};
-ghost use Rattle.gerber_commands.specs.Negative.{first_field, is_negative_image, after_spaces, is_negative_comment};
+ghost use Rattle.gerber_commands.specs.Negative.{is_negative_image, is_negative_comment};
 ghost use Rattle.gerber_commands.specs.Words.{no_effect_row, comment, split_mode, mode_row, quadrant_row, region_row, unit_row, incremental_row, action, digits_after, d_word, g54_word, select_row, coordinate, action_with, kind, fields, is_action_code, is_operation, has_offsets, operands, operate, operation_row, finish_row, deprecated_row, words_after_comment, word};
 ghost use Rattle.gerber_commands.specs.Rows.{first_match};
 ghost use Rattle.gerber_commands.specs.Inner.Runs.{fields_of};
@@ -281,13 +281,6 @@ type CoordinatePair = (OptionalInteger, OptionalInteger);
 /// The values of X and Y, of I and J, and the operation.
 type Operands = ((CoordinatePair, CoordinatePair), Action);
 
-/// The values of two coordinates, or the first reason in the reading order.
-fn pair_of(first: Option<&[u8]>, second: Option<&[u8]>) -> Result<CoordinatePair, Reason>
-    ensures { result ≡ both (coordinate (option_copied first.entry)) (coordinate (option_copied second.entry)) }
-{
-    both(coordinate_of(first), coordinate_of(second))
-}
-
 /// Whether an offset I or J stands.
 fn has_offsets(f: &Runs<'_>) -> bool
     ensures { result ≡ has_offsets (fields_of f.now) }
@@ -300,7 +293,8 @@ fn has_offsets(f: &Runs<'_>) -> bool
 fn read_operands(plotting: bool, f: &Runs<'_>) -> Result<Operands, Reason>
     ensures { result ≡ operands plotting (fields_of f.now) }
 {
-    let coordinates = both(pair_of(f.x, f.y), pair_of(f.i, f.j));
+    let point = both(coordinate_of(f.x), coordinate_of(f.y));
+    let coordinates = both(point, both(coordinate_of(f.i), coordinate_of(f.j)));
     both(coordinates, word_action(plotting, has_offsets(f), f.d))
 }
 

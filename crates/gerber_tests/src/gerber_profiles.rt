@@ -93,9 +93,9 @@ fn clear_polarity_in_the_strict_profile(rt: HostRuntime) {
 
 /// Texts that the wide profile refuses, each with the place and the byte of its fault.
 const REFUSED: [(&[u8], u64, u64, Reason); 9] = [
-    (b"%LPC*LPD*%M02*", 1, 0, Reason::SeveralInOne),
+    (b"%LPD*IPNEG*AMX*%M02*", 1, 0, Reason::NegativeImage),
     (b"%LPC%M02*", 1, 0, Reason::BadWord),
-    (b"%LPC**%M02*", 1, 0, Reason::SeveralInOne),
+    (b"%LPC**%M02*", 1, 0, Reason::BadWord),
     (b"%LPCX*%M02*", 1, 0, Reason::BadWord),
     (b"%LP*%M02*", 1, 0, Reason::BadWord),
     (b"LPC*M02*", 1, 0, Reason::BadWord),
@@ -144,4 +144,15 @@ fn commands_of_both_profiles(rt: HostRuntime) {
     }
     let clear = b"%LPC*%\n%LPD*%\nM02*\n";
     assert!(rt; is_rewritten(alloc, Profile::Wide, b"%LPC*%%LPD*%M2*", clear));
+}
+
+/// Several pieces in one pair of `%` spell what each spells alone, at the place and the byte of the item.
+#[test]
+fn several_pieces(rt: HostRuntime) {
+    let text =
+        b"%FSLAX24Y24*MOIN*ICAS*%%AMT*1,1,1,0,0*%%IPPOS*ADD10T*LNa*ADD11C,0.5*SRX2Y1I5J0*%D10*%SR*LPC*%M2*";
+    let lines =
+        b"%FSLAX24Y24*%\n%MOIN*%\n%AMT*\n1,1,1,0,0*%\n%ADD10T*%\n%ADD11C,0.5*%\n%SRX2Y1I5J0*%\nD10*\n%SR*%\n%LPC*%\nM02*\n";
+    assert!(rt; is_rewritten(rt.alloc(), Profile::Wide, text, lines));
+    assert!(rt; reads_so(rt.alloc(), b"G75*%LPC*LPD*LPC*%M02*", 7, 5, &[(2, 4); 2]));
 }

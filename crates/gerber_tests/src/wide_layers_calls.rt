@@ -129,11 +129,9 @@ const LAYERS: [(&[u8], &[u8]); 24] = [
 ];
 
 /// Layers that are refused: the place, the byte and the reason.
-const REFUSED: [(&[u8], u64, u64, Reason); 4] = [
+const REFUSED: [(&[u8], u64, u64, Reason); 3] = [
     // Clear polarity within a region.
     (b"G36*\n%LPC*%\nG37*\n", 5, 32, Reason::InRegion),
-    // Several pieces in one item.
-    (b"%LPC*LPD*%\n", 4, 27, Reason::SeveralInOne),
     // A rule's fault before a later fault of reading.
     (b"%LPC*%\nD10*\nX1X*\n", 5, 34, Reason::UnknownAperture),
     // Another negative image.

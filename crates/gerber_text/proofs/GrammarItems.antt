@@ -3,6 +3,7 @@ use Rattle.gerber_text.proofs.Common.{◌≡◌, ◌≢◌, inl, inr, ℕ, Bool,
 use Rattle.gerber_commands.proofs.WrittenWords.{word_written}
 use Rattle.gerber_commands.proofs.Exact.{word_exact}
 use Rattle.gerber_commands.proofs.ProfileLemmas.{items_written_in, items_answered_in}
+use Rattle.gerber_commands.specs.Profiles.{IsWidePiece, SpellInTurn}
 use Rattle.gerber_text.proofs.ItemLemmas.{without_end_push, word_means, word_is_item, extended_means, piece_is_item}
 
 -- ---- bytes that are none of one kind
@@ -58,7 +59,7 @@ item_means profile plotting item cs (inr h) =
 
 piece_anywhere : (profile : Profile) (text : List ℕ) (cs : List Command) → IsPiece text cs → IsPieceIn profile text cs
 piece_anywhere Strict text cs h = h
-piece_anywhere Wide text cs h = inr h
+piece_anywhere Wide text cs h = inl (inr (inr h))
 
 pub item_anywhere : (profile : Profile) (plotting : Bool) (item : List ℕ) (cs : List Command) → IsItemIn Strict plotting item cs → IsItemIn profile plotting item cs
 item_anywhere profile plotting item cs (inl h) = inl h
@@ -114,11 +115,21 @@ piece_goes_on text cs (inr (star, inl at)) = form_is (λ f. list_any is_finish f
 piece_goes_on text cs (inr (star, inr (inl (c, one, spelled)))) = ap (list_any is_finish) spelled ∙ ap (λ t. t || false) (no_finish text c one)
 piece_goes_on text cs (inr (star, inr (inr (idle, none)))) = ap (list_any is_finish) none
 
+wide_piece_goes_on : (text : List ℕ) (cs : List Command) → IsWidePiece text cs → list_any is_finish cs ≡ false
+wide_piece_goes_on text cs (inl (is, spelled)) = ap (list_any is_finish) spelled
+wide_piece_goes_on text cs (inr (inl (is, spelled))) = ap (list_any is_finish) spelled
+wide_piece_goes_on text cs (inr (inr written)) = piece_goes_on text cs written
+
+pieces_go_on_in_turn : (parts : List (List ℕ)) (cs : List Command) → SpellInTurn parts cs → list_any is_finish cs ≡ false
+pieces_go_on_in_turn [] cs is = ap (list_any is_finish) is
+pieces_go_on_in_turn (part ∷ parts) cs (first, others, is, star, no_macro, h, more) =
+    ap (list_any is_finish) is ∙ list_any-append is_finish first others ∙ (λ i. wide_piece_goes_on part first h i || pieces_go_on_in_turn parts others more i)
+
 item_goes_on : (profile : Profile) (plotting : Bool) (item : List ℕ) (cs : List Command) → IsItemIn profile plotting item cs → is_end_item item ≡ false → list_any is_finish cs ≡ false
 item_goes_on profile plotting item cs (inl (w, is, star, written)) e = word_goes_on plotting w cs written (ap is_end_item (sym is) ∙ e)
 item_goes_on Strict plotting item cs (inr (text, is, percent, written)) e = piece_goes_on text cs written
-item_goes_on Wide plotting item cs (inr (text, is, percent, inl (clear, spelled))) e = ap (list_any is_finish) spelled
-item_goes_on Wide plotting item cs (inr (text, is, percent, inr written)) e = piece_goes_on text cs written
+item_goes_on Wide plotting item cs (inr (text, is, percent, inl written)) e = wide_piece_goes_on text cs written
+item_goes_on Wide plotting item cs (inr (text, is, percent, inr (first, others, joined, h))) e = pieces_go_on_in_turn (first ∷ others) cs h
 
 -- an item is written for Finish just where it ends the text
 pub item_ends : (profile : Profile) (plotting : Bool) (item : List ℕ) (cs : List Command) → IsItemIn profile plotting item cs → list_any is_finish cs ≡ is_end_item item

@@ -3,6 +3,7 @@ use Rattle.gerber_text.proofs.Common.{ℕ, suc, Bool, true, false, cond, eqb, lt
 use Rattle.std.specs.Prelude.{ℤ, map, is_some, unwrap_or, not, ◌&&◌}
 use Rattle.gerber_commands.specs.declared.command.AttributeKind.{AttributeKind}
 use Rattle.grid_units.specs.Rows.{strip_prefix}
+use Rattle.gerber_commands.specs.Profiles.{piece_among, spelled_in_turn, wide_piece, wide_pieces}
 use Rattle.gerber_text.specs.Reasons.{IsReasonOfReading}
 
 -- ---- answers whose reason is one of reading
@@ -328,14 +329,31 @@ extended_reasons : (text : List ℕ) → ReadingReasons (extended_meaning text)
 unfolding extended_meaning
 extended_reasons text = reasons_cond (bytes_eq (last_byte text) (codes "*")) (piece (before_last text)) (Err BadWord) (piece_reasons (before_last text)) (reasons_err _ BadWord tt)
 
--- an extended item in a profile: clear polarity, or one of the strict profile
-wide_by : (t : Bool) (text : List ℕ) → ReadingReasons (unwrap_or (cond t (Some (Ok (Clear ∷ []))) None) (extended_meaning text))
-wide_by true text = reasons_ok _
-wide_by false text = extended_reasons text
+-- an extended item of the wide profile
+wide_piece_reasons : (text : List ℕ) → ReadingReasons (wide_piece text)
+unfolding wide_piece
+wide_piece_reasons text = by (bytes_eq text (codes "LPC")) (bytes_eq text (codes "ICAS"))
+  where
+    by : (t u : Bool) → ReadingReasons (unwrap_or (cond t (Some (Ok (Clear ∷ []))) (cond u (Some (Ok [])) None)) (first_match (pieces text)))
+    by true u = reasons_ok _
+    by false true = reasons_ok _
+    by false false = first_reasons (pieces text) (pieces_reasons text)
+
+among_reasons : (text : List ℕ) → ReadingReasons (piece_among text)
+unfolding piece_among
+among_reasons text = reasons_cond (is_some (strip_prefix (codes "AM") text)) (Err BadWord) (wide_piece text) (reasons_err _ BadWord tt) (wide_piece_reasons text)
+
+in_turn_reasons : (parts : List (List ℕ)) → ReadingReasons (spelled_in_turn (map piece_among parts))
+in_turn_reasons [] = reasons_ok _
+in_turn_reasons (part ∷ parts) = reasons_bind _ _ (among_reasons part) (λ first. reasons_bind _ _ (in_turn_reasons parts) (λ more. reasons_ok _))
+
+wide_reasons : (text : List ℕ) → ReadingReasons (wide_pieces text)
+unfolding wide_pieces
+wide_reasons text = reasons_cond (has_several_pieces text) (spelled_in_turn (map piece_among (split_by 42 text))) (wide_piece text) (in_turn_reasons (split_by 42 text)) (wide_piece_reasons text)
 
 extended_reasons_in : (profile : Profile) (text : List ℕ) → ReadingReasons (extended_in profile text)
 extended_reasons_in Strict text = extended_reasons text
-extended_reasons_in Wide text = wide_by (bytes_eq text (codes "LPC*")) text
+extended_reasons_in Wide text = reasons_cond (bytes_eq (last_byte text) (codes "*")) (wide_pieces (before_last text)) (Err BadWord) (wide_reasons (before_last text)) (reasons_err _ BadWord tt)
 
 meaning_reasons : (profile : Profile) (plotting : Bool) (item : List ℕ) → ReadingReasons (meaning_in profile plotting item)
 unfolding meaning_in

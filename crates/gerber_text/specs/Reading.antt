@@ -1,6 +1,6 @@
 -- The commands of a Gerber text in a profile, or its first fault (docs/FORMATS.md, Cutting; The first fault; What an item spells; The
 -- wide profile).
-use Rattle.std.specs.Prelude.{◌≡◌, ℕ, suc, ◌≤◌, Bool, true, false, ◌||◌, ◌==◌, nat_lt, List, [], ◌∷◌, ◌++◌, length, take, map, if◌then◌else◌, Result, Ok, Err, Option, Some, None, unwrap_or}
+use Rattle.std.specs.Prelude.{◌≡◌, ℕ, suc, ◌≤◌, Bool, true, false, ◌||◌, ◌==◌, nat_lt, List, [], ◌∷◌, ◌++◌, length, take, map, if◌then◌else◌, Result, Ok, Err, IfOk, Option, Some, None, unwrap_or}
 use Rattle.std.specs.List.{list_all, AllByRecursion}
 use Rattle.std.specs.Global.{Vec}
 use Rattle.grid_units.specs.Results.{◌>>=◌, fault, with_place, IfFault}
@@ -31,6 +31,10 @@ plot_of _ = None
 -- the last operation among these commands is a plot (Gerber format, Coordinate data without operation code)
 abbrev pub is_plotting : Entries → Bool
 is_plotting before = unwrap_or (last_set (λ entry. plot_of entry.what) before) false
+
+-- the answer of a call that adds these entries after others: whether the last operation is a plot, given whether it is one before them
+abbrev pub PlotsAfter : {E : Type 0} → Bool → Result Bool E → Entries → Type 0
+PlotsAfter plotting result more = (before : Entries) → plotting ≡ is_plotting before → IfOk result (λ new. new ≡ is_plotting (before ++ more))
 
 -- the commands of one item, each with the item's number and the offset of its first byte
 abbrev pub item_entries : ℕ → ℕ → List Command → Entries

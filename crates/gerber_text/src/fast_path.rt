@@ -116,7 +116,7 @@ fn may_stand(
 
 /// The operation at the start of these bytes, if it is written so: `G01`, `G02`, `G03` or at least one of `X` and
 /// `Y`, each coordinate with at most 12 digits, `D01`, `D02` or `D03`, and `*`. Where it is written otherwise,
-/// [`read_item`](crate::read_item) reads it.
+/// [`read_item_in`](crate::read_item_in) reads it.
 // Most items are operations: inlined, their fields are not stored on the way.
 #[inline(always)]
 pub fn leading_operation(bytes: &[u8]) -> Option<LeadingOperation>

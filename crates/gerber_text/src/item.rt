@@ -3,7 +3,6 @@
 ghost use Rattle.std.specs.Prelude.{◌≡◌, ◌↔◌, IsTrue};
 ghost use Rattle.gerber_text.specs.Items.{is_end_item, end_byte, IsEnded};
 ghost use Rattle.gerber_text.specs.Meaning.{meaning_in, without_end};
-ghost use Rattle.grid_units.specs.declared.profile.Profile.TheVariants.{Strict};
 ghost use Rattle.grid_units.specs.Results.{Gives};
 
 use gerber_commands::{ItemCommands, read_extended_in, read_word};
@@ -47,20 +46,8 @@ fn prefix(bytes: &[u8]) -> &[u8]
     }
 }
 
-/// The commands of an item in the strict profile, given whether the last operation before it is a plot. An item has no line
-/// breaks, and its last byte is its end: a `%` where it begins with `%`, else a `*` ([`is_ended`]).
-///
-/// # Errors
-///
-/// `Memory` where an allocation failed, else the first reason of the reading order.
-pub fn read_item(alloc: Global, plotting: bool, bytes: &[u8]) -> Result<ItemCommands, ItemFail>
-    requires item { IsEnded bytes.now }
-    ensures { Gives result (meaning_in Strict plotting bytes.now) }
-{
-    read_item_in(alloc, Profile::Strict, plotting, bytes)
-}
-
-/// The commands of an item in a profile, as [`read_item`] gives those in the strict one.
+/// The commands of an item in a profile, given whether the last operation before it is a plot. An item has no line breaks, and
+/// its last byte is its end: a `%` where it begins with `%`, else a `*` ([`is_ended`]).
 ///
 /// # Errors
 ///

@@ -14,11 +14,11 @@ mod writer;
 
 pub use fast_path::{LeadingOperation, is_plot, leading_operation};
 pub use gerber_commands::{
-    Action, AttributeKind, Boxed, Command, Format, Interpolation, ItemCommands, Pieces,
+    Action, AttributeKind, Boxed, Command, Format, Interpolation, ItemCommands, ItemParts, Pieces,
     QuadrantMode, Sizes, Standard, StepRepeat, Template, is_name, is_negative_comment,
     is_negative_image, max_sizes, min_sizes, standard_template, write_item,
 };
-pub use item::{end_byte, is_end_item, is_ended, read_item, read_item_in};
+pub use item::{end_byte, is_end_item, is_ended, read_item_in};
 pub use laws::{
     canonical_items, exact_texts, sayable_texts, spelled_commands, unique_reading, wide_reads_more,
 };

@@ -4,20 +4,21 @@ ghost use Rattle.std.specs.Prelude.{◌≡◌, List, ℕ, ◌+◌, ◌≤◌, �
 ghost use Rattle.std.specs.List.{list_all};
 ghost use Rattle.grid_units.specs.declared.fault.Fail.TheVariants.{Refused};
 ghost use Rattle.grid_units.specs.Limits.{item_limit, text_limit};
+ghost use Rattle.grid_units.specs.Lists.{last_set};
 ghost use Rattle.grid_units.specs.Results.{fault, Answers};
 ghost use Rattle.gerber_text.specs.Items.{end_byte, is_line_break, IsEnded};
 ghost use Rattle.gerber_commands.specs.Rows.{modes_of};
 ghost use Rattle.gerber_commands.specs.declared.command.Command.TheVariants.{Mode};
 ghost use Rattle.grid_units.specs.declared.profile.Profile.TheVariants.{Strict};
-ghost use Rattle.gerber_text.specs.Reading.{Entries, spelled_in, item_entries, ResultsIn, plot_of, is_plotting, ReadsIn, SpellsTextIn, ReadsUpToFault, SpellsBeforeFaultIn, entries_of, entries_after, is_blank};
+ghost use Rattle.gerber_text.specs.Reading.{Entries, spelled_in, item_entries, PlotsAfter, ResultsIn, plot_of, is_plotting, ReadsIn, SpellsTextIn, ReadsUpToFault, SpellsBeforeFaultIn, entries_of, entries_after, is_blank};
 ghost use Rattle.gerber_text.specs.Inner.Bytes.{IsInside, HasLeadingItem, may_follow_end};
 ghost use Rattle.gerber_text.specs.Writing.{without_places, sayable};
 
 use crate::placed::{PassedOperation, PassedText, Placed};
 use crate::text_items::{LeadingText, leading_text};
 use crate::{
-    Command, Interpolation, ItemCommands, LeadingOperation, end_byte, is_end_item, is_plot,
-    leading_operation, read_item_in,
+    Command, Interpolation, ItemCommands, ItemParts, LeadingOperation, end_byte, is_end_item,
+    is_plot, leading_operation, read_item_in,
 };
 use grid_units::{Fail, Fault, ITEM_LIMIT, ItemFail, Profile, Reason};
 use memchr::memchr3;
@@ -130,8 +131,9 @@ fn plots_after(before: bool, what: &Command) -> bool
     }
 }
 
-/// Adds the commands of an item, both or none, and returns whether the last operation is a plot.
+/// Adds the commands of an item, all or none, and returns whether the last operation is a plot.
 fn add(
+    alloc: Global,
     plotting: bool,
     place: u64,
     byte: u64,
@@ -139,15 +141,62 @@ fn add(
     commands: &mut Vec<Placed<Command>>,
 ) -> Result<bool, AllocError>
     ensures added { OnOk result (commands.new.items ≡ commands.old.items ++ item_entries place byte spelled) }
-    ensures plotting { (before : Entries) → plotting ≡ is_plotting before → IfOk result (λ new. new ≡ is_plotting (before ++ item_entries place byte spelled)) }
+    ensures plotting { PlotsAfter plotting result (item_entries place byte spelled) }
     ensures err { OnErr result (commands.new.items ≡ commands.old.items) }
 {
-    let (mode, command) = spelled.into_parts();
-    match (mode, command) {
-        (None, None) => Ok(plotting),
-        (Some(mode), None) => add_command(plotting, place, byte, Command::Mode(mode), commands),
-        (mode, Some(what)) => add_with_mode(plotting, place, byte, mode, what, commands),
+    match spelled.into_parts() {
+        ItemParts::Few(mode, command) => match (mode, command) {
+            (None, None) => Ok(plotting),
+            (Some(mode), None) => add_command(plotting, place, byte, Command::Mode(mode), commands),
+            (mode, Some(what)) => add_with_mode(plotting, place, byte, mode, what, commands),
+        },
+        ItemParts::Several(all) => add_all(alloc, plotting, place, byte, all, commands),
     }
+}
+
+/// Commands at the place and the byte of their item.
+fn placed_all(
+    alloc: Global,
+    place: u64,
+    byte: u64,
+    all: Vec<Command>,
+) -> Result<Vec<Placed<Command>>, AllocError>
+    ensures { IfOk result (λ placed. placed.items ≡ item_entries place byte all.items) }
+{
+    all.into_iter()
+        .map(|what| Placed { place, byte, what })
+        .collect(alloc)
+}
+
+/// Whether the last operation is a plot, once these commands have come.
+fn plots_after_all(before: bool, entries: &[Placed<Command>]) -> bool
+    ensures { result ≡ unwrap_or (last_set (λ entry. plot_of entry.what) entries.now) before }
+{
+    let mut plots = before;
+    for entry in entries {
+        plots = plots_after(plots, &entry.what);
+    }
+    plots
+}
+
+/// Adds the commands of several pieces, all or none, and returns whether the last operation is a plot.
+#[inline(never)]
+fn add_all(
+    alloc: Global,
+    plotting: bool,
+    place: u64,
+    byte: u64,
+    all: Vec<Command>,
+    commands: &mut Vec<Placed<Command>>,
+) -> Result<bool, AllocError>
+    ensures added { OnOk result (commands.new.items ≡ commands.old.items ++ item_entries place byte all.items) }
+    ensures plotting { PlotsAfter plotting result (item_entries place byte all.items) }
+    ensures err { OnErr result (commands.new.items ≡ commands.old.items) }
+{
+    let mut placed = placed_all(alloc, place, byte, all)?;
+    let plots = plots_after_all(plotting, &placed);
+    commands.append(&mut placed)?;
+    Ok(plots)
 }
 
 /// Adds a command after an optional interpolation, both or none, and returns whether the last operation is a
@@ -163,7 +212,7 @@ fn add_with_mode(
     commands: &mut Vec<Placed<Command>>,
 ) -> Result<bool, AllocError>
     ensures added { OnOk result (commands.new.items ≡ commands.old.items ++ item_entries place byte (modes_of mode ++ what ∷ [])) }
-    ensures plotting { (before : Entries) → plotting ≡ is_plotting before → IfOk result (λ new. new ≡ is_plotting (before ++ item_entries place byte (modes_of mode ++ what ∷ []))) }
+    ensures plotting { PlotsAfter plotting result (item_entries place byte (modes_of mode ++ what ∷ [])) }
     ensures err { OnErr result (commands.new.items ≡ commands.old.items) }
 {
     match mode {
@@ -185,7 +234,7 @@ fn add_command(
     commands: &mut Vec<Placed<Command>>,
 ) -> Result<bool, AllocError>
     ensures added { OnOk result (commands.new.items ≡ commands.old.items ++ item_entries place byte (what ∷ [])) }
-    ensures plotting { (before : Entries) → plotting ≡ is_plotting before → IfOk result (λ new. new ≡ is_plotting (before ++ item_entries place byte (what ∷ []))) }
+    ensures plotting { PlotsAfter plotting result (item_entries place byte (what ∷ [])) }
     ensures err { OnErr result (commands.new.items ≡ commands.old.items) }
 {
     let plotting = plots_after(plotting, &what);
@@ -250,7 +299,7 @@ fn parse_item(
     ensures err { OnErr result (commands.new.items ≡ commands.old.items) }
 {
     match read_item_in(alloc, profile, plotting, item) {
-        Ok(spelled) => Ok(add(plotting, place, byte, spelled, commands)?),
+        Ok(spelled) => Ok(add(alloc, plotting, place, byte, spelled, commands)?),
         Err(ItemFail::Memory) => Err(Fail::Memory),
         Err(ItemFail::Refused(reason)) => Err(Fail::Refused(Fault {
             place,

@@ -79,7 +79,7 @@ fn is_negative(kind: TextKind, text: &[u8]) -> bool
 }
 
 /// The comment or the attribute at the start of these bytes, if its item stands there whole, with no line break in it and
-/// within the limit. Where it answers none, [`read_item`](crate::read_item) reads it.
+/// within the limit. Where it answers none, [`read_item_in`](crate::read_item_in) reads it.
 pub fn leading_text(bytes: &[u8]) -> Option<LeadingText>
     ensures within { IfSome result (λ found. found.len ≤ length bytes.now) }
     ensures begins { IfSome result (λ found. HasLeadingText bytes.now found) }

@@ -6,7 +6,7 @@ use crate::inputs::Held;
 use command_line::{Refusal, Request, parse};
 use drill_lines::write_line;
 use drill_text::{DrillCommand, read_drill};
-use gerber_text::{ItemCommands, is_ended, read_item, write_item};
+use gerber_text::{ItemCommands, ItemParts, is_ended, read_item_in, write_item};
 use grid_units::{Fail, ItemFail, Profile, Reason, Text};
 use manifest::{FileContent, InputFile, Name, Proposal, propose, write_proposal, write_reasons};
 use std::alloc::{AllocError, Global};
@@ -17,7 +17,7 @@ pub(crate) fn items(alloc: Global, text: &[u8]) -> Result<Vec<u8>, AllocError> {
     let mut out = Vec::new(alloc);
     for line in text.split(|byte| *byte == b'\n') {
         let item = if is_ended(line) {
-            read_item(alloc, true, line)
+            read_item_in(alloc, Profile::Strict, true, line)
         } else {
             Err(ItemFail::Refused(Reason::BadWord))
         };
@@ -30,8 +30,8 @@ pub(crate) fn items(alloc: Global, text: &[u8]) -> Result<Vec<u8>, AllocError> {
 fn put_item(out: &mut Vec<u8>, item: Result<ItemCommands, ItemFail>) -> Result<(), AllocError> {
     match item {
         Ok(spelled) => match spelled.into_parts() {
-            (_, Some(command)) => write_item(out, &command),
-            (_, None) => Ok(()),
+            ItemParts::Few(_, Some(command)) => write_item(out, &command),
+            _ => Ok(()),
         },
         Err(ItemFail::Refused(reason)) => out.extend_from_slice(reason.name().as_bytes()),
         Err(ItemFail::Memory) => Err(AllocError),

@@ -8,20 +8,21 @@ use Rattle.gerber_commands.specs.declared.command.Interpolation.TheVariants.{Lin
 use Rattle.gerber_commands.specs.Rows.{modes_of}
 use Rattle.gerber_commands.specs.declared.command.Command.TheVariants as command
 use Rattle.gerber_text.specs.FastPath.{text_command}
+use Rattle.gerber_text.specs.declared.fast_path.LeadingOperation.{LeadingOperation}
 use Rattle.gerber_text.specs.declared.text_items.TextKind.{TextKind}
 use Rattle.gerber_text.specs.declared.text_items.TextKind.TheVariants as kinds
 use Rattle.pad_shapes.specs.declared.drawn.Drawn.{Drawn}
 use Rattle.layer_state.proofs.DigitLemmas.{test_no, test_yes}
 use Rattle.layer_state.proofs.StateLemmas.{defined_numbered-more, state_after-more}
 use Rattle.layer_features.specs.Contours.{part_of}
+use Rattle.layer_features.specs.Inner.States.{command_of}
 use Rattle.layer_features.specs.DrawnCopper.{dark_part, drawn_at, first_parts, uncleared_drawn}
-use Rattle.layer_state.specs.Flashes.{aperture_flashes, is_flash}
-use Rattle.layer_state.specs.Lookback.{GraphicsState, current_aperture}
+use Rattle.layer_state.specs.Inner.IsStateAfter.{current_after}
 use Rattle.layer_state.specs.declared.tables.Defined.{Defined}
 use Rattle.layer_features.specs.declared.copper.Copper.{Copper}
 use Rattle.layer_features.specs.declared.drawing.Drawing.{Drawing}
 use Rattle.layer_features.specs.declared.plotter.Setting.{Setting}
-use Rattle.layer_features.specs.CopperHolding.{HasMet, IsSettingOf}
+use Rattle.layer_features.specs.CopperHolding.{HasMet, IsPassed, IsSettingOf}
 use Rattle.layer_features.specs.declared.keep.Keep.{Keep}
 use Rattle.layer_features.specs.declared.kept_features.KeptFeatures.{KeptFeatures}
 use Rattle.layer_features.proofs.ClearingLemmas.{after_last-more, clearing_after-more}
@@ -341,18 +342,33 @@ operation_more now keep taken old added new own commands a x y i j idle dark fre
 closed_part : (s : PlotState) (a : Action) (x y i j : Option ℤ) → s.in_region ≡ false → None ≡ part_by s (command.Operate a x y i j)
 closed_part s a x y i j closed = λ k. if sym closed k then Some (part_of s a x y i j) else None
 
--- what is no flash makes none
-pub no_flash : (s : GraphicsState) (a : Action) (x y i j : Option ℤ) → is_flash a ≡ false → [] ≡ added_flashes s (command.Operate a x y i j)
-no_flash s a x y i j quiet = λ k. if sym quiet k then option_map_or (aperture_flashes s x y) (current_aperture s) [] else []
+-- what an operation leaves selected is what was selected before it, but for the current point
+pub selection_after-operation : (commands : List Command) (a : Action) (x y i j : Option ℤ)
+    → selection_after (commands ++ command.Operate a x y i j ∷ []) ≡ record { now = current_after (command.Operate a x y i j) (current_of (state_after commands)); aperture = selected_after commands }
+selection_after-operation commands a x y i j =
+    let c = command.Operate a x y i j in
+    λ k. record { now = current_of (state_after-more commands c k); aperture = option_and_then (λ number. defined_numbered-more commands c number k) (state_after-more commands c k).selected }
 
--- so one that makes no flash either changes nothing
-pub operation_passed : (keep : Keep) (taken : List WidePad) (old : Copper) (commands : List Command) (a : Action) (x y i j : Option ℤ) → old.drawing.asked ≡ false → old.clearing.clear ≡ false → old.clearing.in_block ≡ false → (current_of (state_after commands)).in_region ≡ false → is_flash a ≡ false
-    → HasMet keep taken old commands → HasMet keep taken old (commands ++ command.Operate a x y i j ∷ [])
-operation_passed keep taken old commands a x y i j idle dark fresh closed quiet met =
-    operation_more (selection_after commands) keep taken old old old [] commands a x y i j idle dark fresh met refl (as_itself commands (command.Operate a x y i j) [] (no_flash (state_after commands) a x y i j quiet)) (record { kept = λ gone features h. subst (KeepsFeatures old.kept gone) (sym (append-nil features)) h; rows = refl; state = refl; drawing = refl })
+-- the current point changes nothing of a flash
+flashed_before : (now : Selection) (old added : Copper) (own : List Flash) (a : Action) (x y i j : Option ℤ)
+    → IsFlashed (record { now = current_after (command.Operate a x y i j) now.now; aperture = now.aperture }) old own added → IsFlashed now old own added
+flashed_before now old added own a x y i j h = record {
+  kept = h.kept;
+  rows = h.rows;
+  state = λ k. record { draw = record { now = now.now; aperture = now.aperture; mode = (h.state k).draw.mode; quadrant = (h.state k).draw.quadrant; mirroring = (h.state k).draw.mirroring }; parts = (h.state k).parts; regions = (h.state k).regions; clearing = (h.state k).clearing };
+  drawing = h.drawing;
+}
+
+-- an operation that passes was met once its flashes are added, as they are after it
+pub operation_passed : (next : Selection) (keep : Keep) (taken : List WidePad) (old added : Copper) (own : List Flash) (commands : List Command) (o : LeadingOperation) → HasMet keep taken old commands → IsPassed old (current_of (state_after commands)) o
+    → next ≡ selection_after (commands ++ command_of o ∷ []) → own ≡ added_flashes (state_after commands) (command_of o) → IsFlashed next old own added → HasMet keep taken added (commands ++ command_of o ∷ [])
+operation_passed next keep taken old added own commands o met passed is own_is flashed =
+    let now = selection_after commands in
+    let before = flashed_before now old added own o.action o.x o.y o.i o.j (subst (λ (s : Selection). IsFlashed s old own added) (is ∙ selection_after-operation commands o.action o.x o.y o.i o.j) flashed) in
+    operation_more now keep taken old added added own commands o.action o.x o.y o.i o.j passed.asked passed.clear passed.in_block met refl (as_itself commands (command_of o) own own_is) before
     (record {
       plotter = refl;
-      parts = subst (λ (o : Option Part). MakeSameContour old.parts.items (old.parts.items ++ cons_option o [])) (closed_part (plot_state (draw_state (selection_after commands) old.plotter)) a x y i j closed) (none_added old.parts.items);
+      parts = subst (λ (p : Option Part). MakeSameContour added.parts.items (added.parts.items ++ cons_option p [])) (closed_part (plot_state (draw_state now added.plotter)) o.action o.x o.y o.i o.j passed.closed) (none_added added.parts.items);
       regions = refl;
       clearing = refl;
       kept = refl;

@@ -1,5 +1,5 @@
 -- Pads of some commands in the wide profile.
-use Rattle.layer_features.proofs.Common.{◌≡◌, ◌+◌, ℕ, ℤ, pos, true, false, List, [], ◌∷◌, ◌++◌, None, Some, refl, sym, ap, arith, parse_decimal, within_limit, GridPoint, Millimetre, GridRounded, WidePad, Command, Format, primitives_shape, AreWidePads, AreWidePadsOf, IsMacroShape}
+use Rattle.layer_features.proofs.Common.{◌≡◌, inl, ◌+◌, ℕ, ℤ, pos, true, false, List, [], ◌∷◌, ◌++◌, None, Some, refl, sym, ap, arith, parse_decimal, within_limit, GridPoint, Millimetre, GridRounded, WidePad, Command, Format, primitives_shape, AreWidePads, AreWidePadsOf, IsMacroShape}
 use Rattle.std.proofs.Common.{neg_ℤ}
 use Rattle.pad_shapes.specs.declared.pad.Pad.TheVariants as pads
 use Rattle.pad_shapes.specs.declared.wide_pad.WidePad.TheVariants.{Plain, Rounded}
@@ -105,7 +105,7 @@ dark_macro = (
       texts = (49 ∷ []) ∷ (49 ∷ []) ∷ (49 ∷ []) ∷ (50 ∷ []) ∷ [];
       parts = refl;
       judged = refl;
-      valued = (one_is, (one_is, (one_is, (two_is, tt))));
+      valued = (one_is, (inl one_is, (one_is, (two_is, tt))));
     },
     refl,
     refl,
@@ -124,7 +124,7 @@ clear_macro = (
       texts = (48 ∷ []) ∷ (49 ∷ []) ∷ (49 ∷ []) ∷ (50 ∷ []) ∷ [];
       parts = refl;
       judged = refl;
-      valued = (zero_is, (one_is, (one_is, (two_is, tt))));
+      valued = (zero_is, (inl one_is, (one_is, (two_is, tt))));
     },
     refl,
     refl,

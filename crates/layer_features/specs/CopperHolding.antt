@@ -1,8 +1,10 @@
 -- What further copper holds of the commands that it has met.
-use Rattle.std.specs.Prelude.{◌≡◌, Bool, List, [], ◌∷◌, ◌++◌, if◌then◌else◌}
+use Rattle.std.specs.Prelude.{◌≡◌, Bool, false, List, [], ◌∷◌, ◌++◌, None, if◌then◌else◌}
 use Rattle.gerber_commands.specs.declared.command.Command.{Command}
+use Rattle.gerber_text.specs.declared.fast_path.LeadingOperation.{LeadingOperation}
 use Rattle.pad_shapes.specs.declared.wide_pad.WidePad.{WidePad}
 use Rattle.layer_state.specs.Lookback.{current_of, state_after}
+use Rattle.layer_state.specs.declared.current.Current.{Current}
 use Rattle.layer_state.specs.Shapes.{defined_numbered}
 use Rattle.layer_state.specs.Tables.{defined_at}
 use Rattle.layer_features.specs.DrawnCopper.{first_parts, uncleared_drawn}
@@ -29,6 +31,15 @@ pub record HasMet (keep : Keep) (taken : List WidePad) (copper : Copper) (comman
 pub record IsSettingOf (setting : Setting) (before : List Command) (c : Command) : Type 0 where
   pub current : setting.current.now ≡ current_of (state_after before)
   pub apertures : defined_at setting.apertures.now ≡ defined_numbered (before ++ c ∷ [])
+
+-- An operation without an interpolation, met in this state, changes nothing of copper but by its flashes: it lies outside of regions, and nothing is
+-- drawn or taken away.
+pub record IsPassed (copper : Copper) (now : Current) (operation : LeadingOperation) : Type 0 where
+  pub alone : operation.mode ≡ None
+  pub closed : now.in_region ≡ false
+  pub asked : copper.drawing.asked ≡ false
+  pub clear : copper.clearing.clear ≡ false
+  pub in_block : copper.clearing.in_block ≡ false
 
 -- the pads that are held
 abbrev pub copper_pads : Copper → List WidePad

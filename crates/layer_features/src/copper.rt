@@ -7,10 +7,11 @@ ghost use Rattle.pad_shapes.specs.declared.wide_pad.WidePad.{WidePad as ThePad};
 ghost use Rattle.gerber_commands.specs.Rows.{modes_of};
 ghost use Rattle.gerber_commands.specs.declared.command.Command.{Command as TheCommand};
 ghost use Rattle.gerber_text.specs.FastPath.{text_command};
+ghost use Rattle.gerber_text.specs.declared.fast_path.LeadingOperation.{LeadingOperation as TheOperation};
 ghost use Rattle.gerber_text.specs.declared.text_items.TextKind.{TextKind as TheKind};
 ghost use Rattle.layer_state.specs.declared.flash.What.TheVariants as what;
 ghost use Rattle.pad_shapes.specs.declared.row.Why.TheVariants as reason;
-ghost use Rattle.layer_state.specs.Flashes.{added_flashes, is_flash};
+ghost use Rattle.layer_state.specs.Flashes.{added_flashes};
 ghost use Rattle.layer_state.specs.Lookback.{current_of, state_after};
 ghost use Rattle.layer_features.specs.Blocks.{copy_count, is_repeated};
 ghost use Rattle.layer_features.specs.DrawnCopper.{dark_part};
@@ -20,7 +21,7 @@ ghost use Rattle.layer_features.specs.Features.{contour_feature, dark_kind, flas
 ghost use Rattle.layer_features.specs.Kept.{AddsFeatures, KeepsFeatures, left_pads};
 ghost use Rattle.layer_features.specs.declared.keep.Keep.{Keep as TheKeep};
 ghost use Rattle.layer_features.specs.declared.feature.Feature.{Feature as TheFeature};
-ghost use Rattle.layer_features.specs.Inner.Plotters.{Selection};
+ghost use Rattle.layer_features.specs.Inner.Plotters.{Selection, selection, selection_after};
 ghost use Rattle.layer_features.specs.Inner.States.{IsLike, after, command_of, copper_at, copper_state, takes_part};
 
 use crate::clearing::Clearing;
@@ -33,7 +34,7 @@ use crate::keep::Keep;
 use crate::kept_features::{KeptFeatures, first_taken_away};
 use crate::part::{Part, add_operation, add_parts};
 use crate::plotter::{Pencil, Plotter, Setting};
-use gerber_text::{Action, Command, Interpolation, LeadingOperation, StepRepeat};
+use gerber_text::{Command, Interpolation, LeadingOperation, StepRepeat};
 use grid_units::Point;
 use layer_state::{Current, Flash, ONE, What, oriented, quarter_turns};
 use pad_shapes::{Drawn, PlacedRounded, SharedRounded, Why, WidePad};
@@ -69,7 +70,7 @@ pub struct CopperParts {
 }
 
 impl Copper {
-    ghost use Rattle.layer_features.specs.CopperHolding.{HasMet, IsCopperOf, IsSettingOf, copper_pads, forgets_pads, standing_pads};
+    ghost use Rattle.layer_features.specs.CopperHolding.{HasMet, IsCopperOf, IsPassed, IsSettingOf, copper_pads, forgets_pads, standing_pads};
 
     /// No command was met.
     pub fn new(alloc: Global, keep: Keep) -> Copper
@@ -148,20 +149,29 @@ impl Copper {
         self.take(setting, &Command::Operate { action, x, y, i, j }, flashes)
     }
 
-    /// Whether an operation changes nothing here: it moves or plots outside of regions, where nothing is to be drawn or taken away. So do
-    /// most that make no flash.
+    /// Whether an operation changes nothing here but by its flashes: it lies outside of regions, and nothing is to be drawn or taken away. So it
+    /// is with most.
     #[inline(always)]
     pub fn passes(&self, state: &Current, operation: &LeadingOperation) -> bool
-        ensures flash { result ≡ true → is_flash operation.now.action ≡ false }
-        ensures met { result ≡ true → (keep : TheKeep) (taken : List ThePad) (commands : List TheCommand) → HasMet keep taken self.now commands → state.now ≡ current_of (state_after commands) → HasMet keep taken self.now ((commands ++ modes_of operation.now.mode) ++ command_of operation.now ∷ []) }
+        ensures { result ≡ true → IsPassed self.now state.now operation.now }
     {
-        if state.in_region || is_flash(operation.action) {
-            return false;
-        }
         match operation.mode {
-            None => self.is_plain(),
+            None => !state.in_region && self.is_plain(),
             Some(_) => false,
         }
+    }
+
+    /// Adds the flashes of an operation that passes. The setting is the one after it, which has another current point alone.
+    ///
+    /// # Errors
+    ///
+    /// An `AllocError` where there is no memory for them.
+    #[inline(always)]
+    pub fn add_passed(&mut self, setting: &Setting, own: &[Flash]) -> Result<(), AllocError>
+        ensures { (keep : TheKeep) (taken : List ThePad) (commands : List TheCommand) (o : TheOperation) → HasMet keep taken self.old commands → IsPassed self.old (current_of (state_after commands)) o → selection setting.now ≡ selection_after (commands ++ command_of o ∷ []) → own.now ≡ added_flashes (state_after commands) (command_of o) → OnOk result (HasMet keep taken self.new (commands ++ command_of o ∷ [])) }
+    {
+        self.add_flashes(setting, own)?;
+        Ok(())
     }
 
     /// Whether nothing is to be drawn, polarity is dark, and nothing of the open block was drawn in clear polarity. So it is with most
@@ -530,11 +540,4 @@ fn add_flashes(
         kept.add(flash_feature(is_clear, shape, why, flash)?)?;
     }
     Ok(())
-}
-
-/// Whether an operation flashes.
-fn is_flash(action: Action) -> bool
-    ensures { result ≡ is_flash action }
-{
-    matches!(action, Action::Flash)
 }

@@ -7,8 +7,6 @@ use Rattle.gerber_commands.specs.Rows.{modes_of}
 use Rattle.gerber_text.specs.declared.text_items.TextKind.{TextKind}
 use Rattle.gerber_text.specs.declared.text_items.TextKind.TheVariants as kinds
 use Rattle.gerber_text.proofs.SpelledIsWritten.{bare}
-use Rattle.layer_features.proofs.CopperLemmas.{no_flash}
-use Rattle.layer_state.specs.Flashes.{is_flash}
 use Rattle.layer_state.specs.declared.scan.Scan.{Scan}
 use Rattle.layer_state.proofs.OwnFlashes.{drop_first, flashes_of-more}
 
@@ -16,12 +14,6 @@ use Rattle.layer_state.proofs.OwnFlashes.{drop_first, flashes_of-more}
 pub flashes_with_mode : (before : List Command) (mode : Option Interpolation) → flashes_of (before ++ modes_of mode) ≡ flashes_of before
 flashes_with_mode before None = ap flashes_of (append-nil before)
 flashes_with_mode before (Some mode) = flashes_of-more before (Mode mode) ∙ append-nil (flashes_of before)
-
--- nor does an operation that is none
-pub flashes_with_operation : (before : List Command) (mode : Option Interpolation) (a : Action) (x y i j : Option ℤ) → is_flash a ≡ false → flashes_of ((before ++ modes_of mode) ++ Operate a x y i j ∷ []) ≡ flashes_of before
-flashes_with_operation before mode a x y i j quiet =
-    let all = before ++ modes_of mode in
-    flashes_of-more all (Operate a x y i j) ∙ ap (λ (l : List Flash). flashes_of all ++ l) (sym (no_flash (state_after all) a x y i j quiet)) ∙ append-nil (flashes_of all) ∙ flashes_with_mode before mode
 
 -- a comment or an attribute makes no flash
 flashes_with_text : (before : List Command) (kind : TextKind) (text : List ℕ) → flashes_of (before ++ text_command kind text ∷ []) ≡ flashes_of before

@@ -45,8 +45,8 @@ impl Met {
     }
 
     /// Checks an operation that a reader has passed, and takes it in.
-    // Apart from those that pass by the copper, which need not make room for what was said before.
-    #[inline(always)]
+    // Apart from those that pass, which need not keep what was said before.
+    #[inline(never)]
     fn add_operation(&mut self, passed: &PassedOperation) -> Result<(), Fail>
         ensures ok { (keep : TheKeep) (taken : List ThePad) (before : Entries) → HasMetLegal keep taken self.old before → OnOk result (HasMetLegal keep taken self.new (before ++ passed_entries passed.now)) }
         ensures refused { (keep : TheKeep) (taken : List ThePad) (before : Entries) → HasMetLegal keep taken self.old before → IfErr result (IfFault (IsFirstFault (before ++ passed_entries passed.now))) }
@@ -81,10 +81,17 @@ impl CommandSink for Met {
 
     #[inline(always)]
     fn take_operation(&mut self, passed: &PassedOperation) -> Result<(), Fail> {
-        if self.copper.passes(self.scan.current(), &passed.operation) {
-            return self.scan.operate(passed);
+        if !self.copper.passes(self.scan.current(), &passed.operation) {
+            return self.add_operation(passed);
         }
-        self.add_operation(passed)
+        self.scan.operate(passed)?;
+        let setting = Setting {
+            current: self.scan.current(),
+            apertures: self.scan.apertures(),
+        };
+        self.copper.add_passed(&setting, self.scan.flashes())?;
+        self.scan.clear_flashes();
+        Ok(())
     }
 
     fn take_text(&mut self, alloc: Global, kind: TextKind, text: &[u8]) -> Result<(), AllocError> {

@@ -1,7 +1,6 @@
 -- The polygon that a call makes of corners.
-use Rattle.layer_state.proofs.Common.{◌≡◌, ◌∙◌, ℤ, ◌<◌, Bool, true, false, ◌&&◌, List, [], ◌∷◌, length, map, reverse, Option, None, Some, unsigned_abs, refl, ap, sym, false≢true, length-reverse, both_true, GridPoint, GridRounded, IsRounded, is_outline, max_corners, in_order, is_turned_over, no_mirroring, oriented_shape, rounded_by}
+use Rattle.layer_state.proofs.Common.{◌≡◌, ◌∙◌, ℤ, ◌<◌, Bool, true, false, List, [], ◌∷◌, length, map, reverse, Option, None, Some, unsigned_abs, refl, ap, sym, false≢true, length-reverse, GridPoint, GridRounded, IsRounded, is_outline, max_corners, in_order, is_turned_over, no_mirroring, oriented_shape, rounded_by}
 use Rattle.std.specs.Prelude.{◌↔◌, IsSome, IfSome, if◌then◌else◌}
-use mathlib.Core.Bool.{beq}
 use Rattle.pad_shapes.specs.Shapes.{IsPadRadius}
 use Rattle.layer_state.specs.declared.mirroring.Mirroring.{Mirroring}
 
@@ -34,13 +33,3 @@ unturned s e = sym (ap (λ others. rounded_by s.first others s.radius) (map-same
     by : (b : Bool) → b ≡ true → (if b then Some s else None) ≡ Some s
     by true h = refl
     by false h = absurd (false≢true h)
-
-same : (a b : Bool) → beq a b ≡ true → a ≡ b
-same true true e = refl
-same true false e = absurd (false≢true e)
-same false true e = absurd (false≢true e)
-same false false e = refl
-
--- what is equal by a test is equal
-pub same_mirroring : (m n : Mirroring) → (beq m.x n.x && beq m.y n.y) ≡ true → m ≡ n
-same_mirroring m n e = let h = both_true (beq m.x n.x) (beq m.y n.y) e in (λ i. record { x = same m.x n.x h.0 i; y = same m.y n.y h.1 i })

@@ -1,5 +1,5 @@
 -- Sums and steps of coordinates, within 128 bits.
-use Rattle.layer_state.proofs.Common.{◌≡◌, ℕ, ◌*◌, ◌^◌, ◌≤◌, ◌<◌, ℤ, pos, ◌+ℤ◌, ◌*ℤ◌, unsigned_abs, FitsSigned, ap, ◌∙◌, arith, to_z, of_z, mul-le-mul, lit<, ints, fits_signed_mul, unsigned_abs-mul, to_z-of_z, back_128, w128, w64}
+use Rattle.layer_state.proofs.Common.{◌≡◌, ℕ, ◌*◌, ◌^◌, ◌≤◌, ◌<◌, ℤ, pos, ◌+ℤ◌, ◌*ℤ◌, unsigned_abs, FitsSigned, ap, ◌∙◌, arith, to_z, of_z, mul-le-mul, lit<, ints, fits_signed_mul, unsigned_abs-mul, to_z-of_z, back_128, w128, w64, Option, unwrap_or}
 
 -- so many steps, as the code forms them
 pub steps : (a step : ℤ) (count : ℕ) → a ≡ pos count → count < 2 ^ 32 → unsigned_abs step ≤ 2 ^ 71 → to_z w128 (of_z w128 a) *ℤ to_z w128 (of_z w128 step) ≡ pos count *ℤ step
@@ -24,15 +24,6 @@ stepped_fits start step count near few short = small_sum_fits start _ near (step
 pub stepped : (start a step : ℤ) (count : ℕ) → a ≡ pos count → unsigned_abs start ≤ 2 ^ 98 → count < 2 ^ 32 → unsigned_abs step ≤ 2 ^ 71 → to_z w128 (of_z w128 start) +ℤ to_z w128 (of_z w128 (to_z w128 (of_z w128 a) *ℤ to_z w128 (of_z w128 step))) ≡ start +ℤ pos count *ℤ step
 stepped start a step count e near few short = λ i. back_128 start near i +ℤ (ap (λ z. to_z w128 (of_z w128 z)) (steps a step count e few short) ∙ to_z-of_z w128 _ (steps_fit count step few short)) i
 
-in_128 : (z : ℤ) → FitsSigned w64 z → to_z w128 (of_z w128 z) ≡ z
-in_128 z h = to_z-of_z w128 z (omega (arith, ints))
-
--- a sum of two numbers of 64 bits, as the code forms it
-pub sum : (a b x y : ℤ) → FitsSigned w64 x → FitsSigned w64 y → a ≡ x → b ≡ y → to_z w128 (of_z w128 a) +ℤ to_z w128 (of_z w128 b) ≡ x +ℤ y
-sum a b x y h l e f = λ i. (ap (λ z. to_z w128 (of_z w128 z)) e ∙ in_128 x h) i +ℤ (ap (λ z. to_z w128 (of_z w128 z)) f ∙ in_128 y l) i
-
-pub sum_fits : (x y : ℤ) → FitsSigned w64 x → FitsSigned w64 y → FitsSigned w128 (x +ℤ y)
-sum_fits x y h l = omega (arith, ints)
-
-pub sum_bound : (x y : ℤ) → FitsSigned w64 x → FitsSigned w64 y → unsigned_abs (x +ℤ y) ≤ 2 ^ 64
-sum_bound x y h l = omega (arith, ints)
+-- a coordinate that is named, else the last one, as the code has it
+pub named : (o : Option ℤ) (r x : ℤ) → FitsSigned w64 r → FitsSigned w64 x → r ≡ unwrap_or o (to_z w64 (of_z w64 x)) → to_z w64 (of_z w64 r) ≡ unwrap_or o x
+named o r x f g h = to_z-of_z w64 r f ∙ h ∙ ap (unwrap_or o) (to_z-of_z w64 x g)

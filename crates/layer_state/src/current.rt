@@ -1,6 +1,6 @@
 //! The graphics state as one command sees it: its unit and decimals, its points, its aperture, and what it would flash.
 
-ghost use Rattle.std.specs.Prelude.{◌≡◌, Option, ℤ, IfSome, false, []};
+ghost use Rattle.std.specs.Prelude.{◌≡◌, Option, ℤ, IfSome, false, [], if◌then◌else◌};
 ghost use Rattle.std.specs.List.{find, list_any};
 ghost use Rattle.std.specs.Option.{option_map_or};
 ghost use Rattle.gerber_commands.specs.declared.command.Action.{Action as TheAction};
@@ -230,17 +230,11 @@ impl State {
                 origin(),
                 diameter.half(unit),
             ).unwrap())),
-            Aperture::Rectangle(width, height, _) if exchanged => What::Pad(Pad::Rect(rect(
-                *height, *width, unit,
-            ))),
             Aperture::Rectangle(width, height, _) => What::Pad(Pad::Rect(rect(
-                *width, *height, unit,
-            ))),
-            Aperture::Obround(width, height, _) if exchanged => What::Pad(Pad::Obround(obround(
-                *height, *width, unit,
+                *width, *height, exchanged, unit,
             ))),
             Aperture::Obround(width, height, _) => What::Pad(Pad::Obround(obround(
-                *width, *height, unit,
+                *width, *height, exchanged, unit,
             ))),
             Aperture::Polygon => What::Other(Why::Polygon),
             Aperture::Macro => What::Other(Why::Macro),
@@ -260,18 +254,30 @@ fn origin() -> Point
     Point::new(0, 0).unwrap()
 }
 
-fn rect(width: Side, height: Side, unit: Unit) -> Rect
-    requires width { is_far_side unit width ≡ false }
-    requires height { is_far_side unit height ≡ false }
-    ensures { result ≡ rect_at origin unit width height }
+/// The rectangle of these sides along x and y, which may be exchanged.
+fn rect(x: Side, y: Side, exchanged: bool, unit: Unit) -> Rect
+    requires x { is_far_side unit x ≡ false }
+    requires y { is_far_side unit y ≡ false }
+    ensures { result ≡ (if exchanged then rect_at origin unit y x else rect_at origin unit x y) }
 {
-    Rect::new(origin(), width.half(unit), height.half(unit)).unwrap()
+    let (half_x, half_y) = (x.half(unit), y.half(unit));
+    if exchanged {
+        Rect::new(origin(), half_y, half_x).unwrap()
+    } else {
+        Rect::new(origin(), half_x, half_y).unwrap()
+    }
 }
 
-fn obround(width: Side, height: Side, unit: Unit) -> Obround
-    requires width { is_far_side unit width ≡ false }
-    requires height { is_far_side unit height ≡ false }
-    ensures { result ≡ obround_at origin unit width height }
+/// The obround of these sides along x and y, which may be exchanged.
+fn obround(x: Side, y: Side, exchanged: bool, unit: Unit) -> Obround
+    requires x { is_far_side unit x ≡ false }
+    requires y { is_far_side unit y ≡ false }
+    ensures { result ≡ (if exchanged then obround_at origin unit y x else obround_at origin unit x y) }
 {
-    Obround::new(origin(), width.half(unit), height.half(unit)).unwrap()
+    let (half_x, half_y) = (x.half(unit), y.half(unit));
+    if exchanged {
+        Obround::new(origin(), half_y, half_x).unwrap()
+    } else {
+        Obround::new(origin(), half_x, half_y).unwrap()
+    }
 }

@@ -10,7 +10,7 @@ use pad_shapes::{Rounded, SharedRounded};
 use std::alloc::{AllocError, Global};
 
 /// The axes along which flashes are mirrored.
-#[derive(Clone, Copy, Debug, PartialEq, Eq)]
+#[derive(Clone, Copy)]
 pub struct Mirroring {
     /// Whether the sign of x changes.
     pub x: bool,
@@ -158,7 +158,7 @@ pub fn oriented(
 ) -> Result<Option<SharedRounded>, AllocError>
     ensures { IfOk result (λ answer. answer ≡ oriented_shape mirroring turns shape.now) }
 {
-    if turns == 0 && mirroring == Mirroring::none() {
+    if turns == 0 && !mirroring.x && !mirroring.y {
         return unchanged(shape);
     }
     match oriented_shape(alloc, mirroring, turns, shape.get())? {

@@ -2,7 +2,7 @@
 
 ghost use Rattle.std.specs.Prelude.{◌≡◌, ◌↔◌, ◌≤◌, ◌≤ℤ◌, pos, false, IsSome, IfSome};
 ghost use Rattle.grid_units.specs.Numbers.{is_too_far};
-ghost use Rattle.pad_shapes.specs.Shapes.{IsPadRadius, IsHalfSide};
+ghost use Rattle.pad_shapes.specs.Shapes.{IsPadRadius, IsHalfSide, max_half_side};
 ghost use Rattle.layer_state.specs.Numbers.{dec_length, half_length};
 
 use grid_units::{Dec, Unit};
@@ -52,10 +52,7 @@ impl Diameter {
         ensures value { result ≡ half_length unit self }
         ensures in_range { IsPadRadius result }
     {
-        match unit {
-            Unit::Inch => self.size.units() * 127,
-            Unit::Millimetre => self.size.units() * 5,
-        }
+        half_of(self.size, unit)
     }
 }
 
@@ -103,9 +100,20 @@ impl Side {
         ensures value { result ≡ half_length unit self }
         ensures in_range { IsHalfSide result }
     {
-        match unit {
-            Unit::Inch => self.size.units() * 127,
-            Unit::Millimetre => self.size.units() * 5,
-        }
+        half_of(self.size, unit)
+    }
+}
+
+/// Half of a size, in pm.
+fn half_of(size: Dec, unit: Unit) -> i64
+    requires { is_too_far (dec_length unit size) ≡ false }
+    ensures value { result ≡ half_length unit size }
+    ensures not_negative { pos 0 ≤ℤ size → pos 0 ≤ℤ result }
+    ensures positive { pos 1 ≤ℤ size → pos 1 ≤ℤ result }
+    ensures short { result ≤ℤ pos max_half_side }
+{
+    match unit {
+        Unit::Inch => size.units() * 127,
+        Unit::Millimetre => size.units() * 5,
     }
 }

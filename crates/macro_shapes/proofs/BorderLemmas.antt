@@ -16,11 +16,10 @@ pub record IsAtLeast (o : Option ℕ) (d : ℕ) : Type 0 where
   pub enough : d ≤ size
 
 pub least_parts : (a b : Option ℕ) (d : ℕ) → least a b ≡ Some d → IsAtLeast a d × IsAtLeast b d
-least_parts None b d h = none_some d h
-least_parts (Some a) None d h = none_some d h
 least_parts (Some a) (Some b) d h =
     let e : min a b ≡ d = same_Some (min a b) d h in
     (record { size = a; found = refl; enough = omega (arith, e) }, record { size = b; found = refl; enough = omega (arith, e) })
+least_parts _ _ d h = none_some d h
 
 pub weaker : (o : Option ℕ) (d e : ℕ) → e ≤ d → IsAtLeast o d → IsAtLeast o e
 weaker o d e less h = record { size = h.size; found = h.found; enough = le_trans less h.enough }
@@ -84,9 +83,7 @@ circle_at : (v p : GridPoint) (size d : ℕ) (q : Primitive) → diameter_at v q
 circle_at v p size d (primitive.Circle c n) h less near =
     let both = cond_some (is_same c v) n d h in
     subst (λ m. 4 * square_distance p c ≤ square m) (sym both.1) (subst (λ u. 4 * square_distance p u ≤ square d) (sym (same_point c v both.0)) (in_circle (square_distance p v) size d less near))
-circle_at v p size d (primitive.VectorLine a b n) h less near = none_some d h
-circle_at v p size d (primitive.CentreLine c m n) h less near = none_some d h
-circle_at v p size d (primitive.Outline r) h less near = none_some d h
+circle_at v p size d _ h less near = none_some d h
 
 -- p lies beside an edge, no further from its line than half of a lesser size
 pub in_line : (e : Edge) (p : GridPoint) (size w : ℕ) → size ≤ w → is_beside e (size / 2) p ≡ true → IsInLine e w p
@@ -149,7 +146,6 @@ line_back a b w p h =
     rest_below u t n e h = omega (arith, ints)
 
 line_at : (e : Edge) (p : GridPoint) (size w : ℕ) (q : Primitive) → width_along e q ≡ Some w → size ≤ w → is_beside e (size / 2) p ≡ true → IsInPrimitive q p
-line_at e p size w (primitive.Circle c n) h less near = none_some w h
 line_at e p size w (primitive.VectorLine a b n) h less near =
     let both = cond_some ((is_same a e.from && is_same b e.to) || (is_same a e.to && is_same b e.from)) n w h in
     subst (λ m. IsInLine (edge a b) m p) (sym both.1) (elim (or_cases (is_same a e.from && is_same b e.to) (is_same a e.to && is_same b e.from) both.0) [
@@ -163,8 +159,7 @@ line_at e p size w (primitive.VectorLine a b n) h less near =
   where
     moved : (u v : GridPoint) → u ≡ a → v ≡ b → IsInLine (edge u v) w p → IsInLine (edge a b) w p
     moved u v f g l = subst (λ z. IsInLine (edge a z) w p) g (subst (λ z. IsInLine (edge z v) w p) f l)
-line_at e p size w (primitive.CentreLine c m n) h less near = none_some w h
-line_at e p size w (primitive.Outline r) h less near = none_some w h
+line_at e p size w _ h less near = none_some w h
 
 -- ---- what a border says
 

@@ -1,5 +1,6 @@
 -- The border that is found size by size is the least of the whole list.
-use Rattle.macro_shapes.proofs.Common.{◌≡◌, ℕ, max, min, Bool, true, false, cond, eqb, List, [], ◌∷◌, ◌++◌, length, map, Option, None, Some, refl, sym, ap, ◌∙◌, cons_option, filter_map, fold, reduce, GridPoint, GridRounded, Edge, corners, edges, diameter_at, width_along, disc_at, line_along, least_of, border, cross_border, other_end, rounded_or_along, line_shape, greatest, least, disc_in_turn, line_in_turn, discs_in_turn, border_in_turn, cross_border_in_turn, Primitive}
+use Rattle.macro_shapes.proofs.Common.{◌≡◌, ℕ, max, min, Bool, true, false, cond, eqb, List, [], ◌∷◌, ◌++◌, length, map, Option, None, Some, refl, sym, ap, ◌∙◌, cons_option, filter_map, fold, reduce, GridPoint, GridRounded, Edge, corners, edges, diameter_at, width_along, disc_at, line_along, least_of, border, cross_border, rounded_of, rectangle_along, segment, line_shape, greatest, least, disc_in_turn, line_in_turn, discs_in_turn, border_in_turn, Primitive}
+use Rattle.std.specs.Option.{option_map_or}
 use Rattle.std.proofs.lemmas.List.Sums.{fold-append}
 use Rattle.std.proofs.lemmas.List.Folds.{fold-map}
 
@@ -59,7 +60,7 @@ border_is qs r = by (eqb (length r.others) 0)
     by true = all []
     by false = all (edges r)
 
-pub cross_border_is : (qs : List Primitive) (common : GridRounded) (widths heights : ℕ) → cross_border_in_turn qs common widths heights ≡ cross_border qs common widths heights
+pub cross_border_is : (qs : List Primitive) (common : GridRounded) (widths heights : ℕ) → least (least (discs_in_turn qs common) (Some widths)) (Some heights) ≡ cross_border qs common widths heights
 unfolding cross_border
 cross_border_is qs common widths heights =
     ap (λ a. least (least a (Some widths)) (Some heights)) (sym (fold-map least (disc_at qs) (disc_at qs common.first) common.others))
@@ -67,7 +68,8 @@ cross_border_is qs common widths heights =
     ∙ least_from (disc_at qs common.first) (map (disc_at qs) common.others ++ Some widths ∷ Some heights ∷ []))
 
 -- the shape of a line by its border
-pub line_shape_is : (qs : List Primitive) (a b : GridPoint) (width : ℕ) (others : List GridPoint) (size : Option ℕ) → others ≡ other_end a b
-    → size ≡ border_in_turn qs (record { first = a; others = others; radius = 0 }) → rounded_or_along a b width size ≡ line_shape qs a b width
+pub line_shape_is : (qs : List Primitive) (a b : GridPoint) (width : ℕ) (others : List GridPoint) (size : Option ℕ) → others ≡ (segment a b).others
+    → size ≡ border_in_turn qs (record { first = a; others = others; radius = 0 }) → option_map_or (rounded_of a (segment a b).others) size (rectangle_along a b width) ≡ line_shape qs a b width
 line_shape_is qs a b width others size ends found =
-    ap (rounded_or_along a b width) (found ∙ (ap (λ (l : List GridPoint). border_in_turn qs (record { first = a; others = l; radius = 0 })) ends ∙ border_is qs (record { first = a; others = other_end a b; radius = 0 })))
+    ap (λ o. option_map_or (rounded_of a (segment a b).others) o (rectangle_along a b width))
+    (found ∙ (ap (λ (l : List GridPoint). border_in_turn qs (record { first = a; others = l; radius = 0 })) ends ∙ border_is qs (segment a b)))

@@ -1,7 +1,12 @@
 -- Products and quotients are exact.
-use Rattle.macro_shapes.proofs.Common.{◌≡◌, ℕ, zero, suc, ◌*◌, ◌/◌, ◌%◌, ◌^◌, ℤ, pos, negsuc, ◌*ℤ◌, unsigned_abs, Bool, true, false, cond, not, ◌||◌, eqb, leb, None, Some, refl, sym, ap, subst, ◌∙◌, arith, int_lt, eqb-true, le-ltb, ints, div-add-mod', same_Some, Is, is_n, is_mul, same, negated_if, exact_quotient, have_other_signs}
+use Rattle.macro_shapes.proofs.Common.{◌≡◌, ℕ, zero, suc, ◌*◌, ◌/◌, ◌%◌, ◌^◌, ℤ, pos, negsuc, ◌*ℤ◌, unsigned_abs, Bool, true, false, cond, not, ◌||◌, eqb, leb, None, Some, refl, sym, ap, subst, ◌∙◌, arith, int_lt, eqb-true, le-ltb, ints, div-add-mod', same_Some, Is, is_n, is_mul, same, exact_quotient, have_other_signs}
+use Rattle.std.specs.Prelude.{neg_ℤ}
 use Rattle.grid_units.specs.Numbers.{max_units}
 use Rattle.macro_shapes.specs.Laws.{ProductsAreExact, QuotientsAreExact}
+
+-- a number below zero where this is so: `-5` of 5
+abbrev negated_if : Bool → ℕ → ℤ
+negated_if negative n = cond negative (neg_ℤ (pos n)) (pos n)
 
 -- a quotient times the divisor is the dividend
 exact_parts : (t : Bool) (n d : ℕ) (v : ℤ) → exact_quotient t n d ≡ Some v → (q : ℕ) × (q * d ≡ n) × (negated_if t q ≡ v)
@@ -9,10 +14,8 @@ unfolding exact_quotient
 exact_parts t n d v e = by (eqb d 0) (eqb (n % d) 0) (leb (unsigned_abs (negated_if t (n / d))) max_units) refl e
   where
     by : (z r s : Bool) → eqb (n % d) 0 ≡ r → cond (z || not r) None (cond s (Some (negated_if t (n / d))) None) ≡ Some v → (q : ℕ) × (q * d ≡ n) × (negated_if t q ≡ v)
-    by true r s p h = absurd cc
-    by false false s p h = absurd cc
     by false true true p h = let whole : n / d * d ≡ n = omega (arith, div-add-mod' n d, eqb-true (n % d) 0 p) in (n / d, whole, same_Some (negated_if t (n / d)) v h)
-    by false true false p h = absurd cc
+    by z r s p h = absurd cc
 
 below : (n : ℕ) → Is (negated_if true n) 0 n
 below zero = record { is = omega arith }

@@ -3,7 +3,6 @@ pub mod ReadingLemmas
 pub mod PiecesLemmas
 pub mod ArithmeticLemmas
 pub mod ExactLemmas
-pub mod FramesLemmas
 pub mod ScanLemmas
 pub mod VariablesLemmas
 pub mod SplitLemmas

@@ -1,47 +1,71 @@
 -- The primitives that are read are just those that the pieces spell.
-use Rattle.std.proofs.Common.{◌≡◌, ◌↔◌, ℕ, suc, ◌≤◌, ℤ, Bool, true, false, cond, leb, List, [], ◌∷◌, ◌++◌, length, map, Option, Some, None, refl, sym, ap, subst, ◌∙◌, arith, append_assoc}
+use Rattle.std.proofs.Common.{◌≡◌, ◌↔◌, ℕ, ◌+◌, ◌≤◌, inl, inr, ℤ, Bool, true, false, cond, leb, List, [], ◌∷◌, ◌++◌, length, map, Option, Some, None, refl, sym, ap, subst, ◌∙◌, arith, append_assoc}
 use Rattle.std.specs.Prelude.{option_map, option_and_then, Result, Ok, Err, MatchOption}
 use Rattle.std.specs.Bool.{MatchBool}
 use Rattle.std.specs.Result.{result_ok}
-use Rattle.std.specs.List.{AllZip}
+use Rattle.std.specs.Option.{option_or}
 use Rattle.std.proofs.lemmas.Bool.{leb-true, leb-false, le-leb}
-use Rattle.std.proofs.lemmas.Option.{same_Some}
+use Rattle.std.proofs.lemmas.List.{length-map}
+use Rattle.std.proofs.lemmas.Option.{cond_some, same_Some}
 use Rattle.grid_units.specs.Numbers.{parse_decimal}
 use Rattle.grid_units.specs.declared.fault.Reason.{Reason}
 use Rattle.grid_units.specs.Ascii as ascii
-use Rattle.macro_shapes.specs.Values.{Environment, lookup, with_value, IsValue}
-use Rattle.macro_shapes.specs.Pieces.{split_by, AreParameters, is_comment, definition, code_of, SpellsFields, SpellPrimitives, IsMacro}
-use Rattle.macro_shapes.specs.Inner.Reading.{start, run}
-use Rattle.macro_shapes.specs.Inner.Pieces.{value_of, all_values, parts_fields, piece_fields, on_definition, fields_from, all_decimals, if_few, parameters_of}
+use Rattle.macro_shapes.specs.Values.{Environment, lookup, with_value, IsDiameter, IsRoundedProduct, IsValue}
+use Rattle.macro_shapes.specs.Pieces.{split_by, AreFields, AreParameters, is_comment, is_diameter, definition, code_of, SpellsFields, SpellPrimitives, IsMacro}
+use Rattle.macro_shapes.specs.Inner.Pieces.{value_of, diameter_of, field_value, all_values, parts_fields, piece_fields, on_definition, fields_from, all_decimals, if_few, parameters_of}
 use Rattle.macro_shapes.specs.declared.fields.Fields.{Fields}
+use Rattle.macro_shapes.specs.declared.piece.Code.{Code}
 use Rattle.macro_shapes.proofs.BytesLemmas.{comment_is, definition_is}
-use Rattle.macro_shapes.proofs.ReadingLemmas.{bind_some, map_some, read_exactly}
+use Rattle.macro_shapes.proofs.ReadingLemmas.{bind_some, map_some, read_exactly, product_exactly}
 
 -- ---- values
 
-pub value_exactly : (variables : Environment) (text : List ℕ) (v : ℤ) → (value_of variables text ≡ Some v) ↔ IsValue variables text v
-unfolding value_of
-value_exactly variables text v = by (leb (length text) 1000) refl
+none_some : {A : Type 0} (x : A) → None ≡ Some x → ⊥
+none_some x e = cc
+
+-- what is asked of a text of at most 1000 bytes
+when_short : (text : List ℕ) (o : Option ℤ) (v : ℤ) (P : Type 0) → (o ≡ Some v) ↔ P → (cond (leb (length text) 1000) o None ≡ Some v) ↔ ((length text ≤ 1000) × P)
+when_short text o v P exactly = by (leb (length text) 1000) refl
   where
-    by : (t : Bool) → leb (length text) 1000 ≡ t → (cond t (run variables start [] text) None ≡ Some v) ↔ IsValue variables text v
-    by true e = read_exactly variables text v (leb-true (length text) 1000 e)
+    by : (t : Bool) → leb (length text) 1000 ≡ t → (cond t o None ≡ Some v) ↔ ((length text ≤ 1000) × P)
+    by true e = (λ h. (leb-true (length text) 1000 e, exactly.0 h), λ h. exactly.1 h.1)
     by false e = (λ h. absurd cc, λ h. absurd (omega (arith, h.0, leb-false (length text) 1000 e)))
 
-pub values_found : (variables : Environment) (texts : List (List ℕ)) (vs : List ℤ) → all_values variables texts ≡ Some vs → AllZip (IsValue variables) texts vs
-values_found variables [] [] e = tt
-values_found variables [] (v ∷ vs) e = absurd cc
-values_found variables (text ∷ texts) vs e =
-    let w = bind_some (λ v. option_map (λ us. v ∷ us) (all_values variables texts)) (value_of variables text) vs e in
-    let u = map_some (λ us. w.0 ∷ us) (all_values variables texts) vs w.2 in
-    subst (λ l. AllZip (IsValue variables) (text ∷ texts) l) u.2 ((value_exactly variables text w.0).0 w.1, values_found variables texts u.0 u.1)
+pub value_exactly : (variables : Environment) (text : List ℕ) (v : ℤ) → (value_of variables text ≡ Some v) ↔ IsValue variables text v
+unfolding value_of
+value_exactly variables text v = when_short text _ v _ (read_exactly variables text v)
 
-pub values_given : (variables : Environment) (texts : List (List ℕ)) (vs : List ℤ) → AllZip (IsValue variables) texts vs → all_values variables texts ≡ Some vs
-values_given variables [] [] h = refl
-values_given variables [] (v ∷ vs) h = absurd h
-values_given variables (text ∷ texts) [] h = absurd h
-values_given variables (text ∷ texts) (v ∷ vs) h =
-    ap (option_and_then (λ w. option_map (λ us. w ∷ us) (all_values variables texts))) ((value_exactly variables text v).1 h.0)
-    ∙ ap (option_map (λ us. v ∷ us)) (values_given variables texts vs h.1)
+diameter_exactly : (variables : Environment) (text : List ℕ) (v : ℤ) → (diameter_of variables text ≡ Some v) ↔ IsDiameter variables text v
+diameter_exactly variables text v = by (value_of variables text) refl (when_short text _ v _ (product_exactly variables text v))
+  where
+    by : (o : Option ℤ) {product : Option ℤ} → value_of variables text ≡ o → (product ≡ Some v) ↔ ((length text ≤ 1000) × IsRoundedProduct variables text v) → (option_or o product ≡ Some v) ↔ IsDiameter variables text v
+    by (Some u) e rounded = (λ h. inl ((value_exactly variables text v).0 (e ∙ h)), λ h. elim h [ inl value ↦ sym e ∙ (value_exactly variables text v).1 value | inr product ↦ absurd (product.0 u ((value_exactly variables text u).0 e)) ])
+    by None e rounded = (
+      λ h. let is = rounded.0 h in inr (λ u value. none_some u (sym e ∙ (value_exactly variables text u).1 value), is.0, is.1),
+      λ h. elim h [ inl value ↦ absurd (none_some v (sym e ∙ (value_exactly variables text v).1 value)) | inr product ↦ rounded.1 (product.1, product.2) ],
+    )
+
+field_exactly : (variables : Environment) (c : Code) (n : ℕ) (text : List ℕ) (v : ℤ) → (field_value variables c n text ≡ Some v) ↔ MatchBool (is_diameter c n) (IsDiameter variables text v) (IsValue variables text v)
+field_exactly variables c n text v = by (is_diameter c n)
+  where
+    by : (t : Bool) → (cond t (diameter_of variables text) (value_of variables text) ≡ Some v) ↔ MatchBool t (IsDiameter variables text v) (IsValue variables text v)
+    by true = diameter_exactly variables text v
+    by false = value_exactly variables text v
+
+values_found : (variables : Environment) (c : Code) (n : ℕ) (texts : List (List ℕ)) (vs : List ℤ) → all_values variables c n texts ≡ Some vs → AreFields variables c n texts vs
+values_found variables c n [] [] e = tt
+values_found variables c n [] (v ∷ vs) e = absurd cc
+values_found variables c n (text ∷ texts) vs e =
+    let w = bind_some (λ v. option_map (λ us. v ∷ us) (all_values variables c (n + 1) texts)) (field_value variables c n text) vs e in
+    let u = map_some (λ us. w.0 ∷ us) (all_values variables c (n + 1) texts) vs w.2 in
+    subst (λ l. AreFields variables c n (text ∷ texts) l) u.2 ((field_exactly variables c n text w.0).0 w.1, values_found variables c (n + 1) texts u.0 u.1)
+
+values_given : (variables : Environment) (c : Code) (n : ℕ) (texts : List (List ℕ)) (vs : List ℤ) → AreFields variables c n texts vs → all_values variables c n texts ≡ Some vs
+values_given variables c n [] [] h = refl
+values_given variables c n (text ∷ texts) (v ∷ vs) h =
+    ap (option_and_then (λ w. option_map (λ us. w ∷ us) (all_values variables c (n + 1) texts))) ((field_exactly variables c n text v).1 h.0)
+    ∙ ap (option_map (λ us. v ∷ us)) (values_given variables c (n + 1) texts vs h.1)
+values_given variables c n _ _ h = absurd h
 
 -- ---- primitives
 
@@ -52,16 +76,16 @@ fields_found variables piece f e = by (split_by ascii.comma piece) refl e
     by : (parts : List (List ℕ)) → split_by ascii.comma piece ≡ parts → parts_fields variables parts ≡ Some f → SpellsFields variables piece f
     by [] p h = absurd cc
     by (c ∷ texts) p h =
-        let w = bind_some (λ k. option_map (λ vs. record { code = k; values = vs }) (all_values variables texts)) (code_of c) f h in
-        let u = map_some (λ vs. record { code = w.0; values = vs }) (all_values variables texts) f w.2 in
-        subst (λ g. SpellsFields variables piece g) u.2 (record { code_text = c; texts = texts; parts = p; judged = w.1; valued = values_found variables texts u.0 u.1 })
+        let w = bind_some (λ k. option_map (λ vs. record { code = k; values = vs }) (all_values variables k 0 texts)) (code_of c) f h in
+        let u = map_some (λ vs. record { code = w.0; values = vs }) (all_values variables w.0 0 texts) f w.2 in
+        subst (λ g. SpellsFields variables piece g) u.2 (record { code_text = c; texts = texts; parts = p; judged = w.1; valued = values_found variables w.0 0 texts u.0 u.1 })
 
 pub fields_given : (variables : Environment) (piece : List ℕ) (f : Fields) → SpellsFields variables piece f → piece_fields variables piece ≡ Some f
 unfolding piece_fields
 fields_given variables piece f h =
     ap (parts_fields variables) h.parts
-    ∙ (ap (option_and_then (λ k. option_map (λ vs. record { code = k; values = vs }) (all_values variables h.texts))) h.judged
-    ∙ ap (option_map (λ vs. record { code = f.code; values = vs })) (values_given variables h.texts f.values h.valued))
+    ∙ (ap (option_and_then (λ k. option_map (λ vs. record { code = k; values = vs }) (all_values variables k 0 h.texts))) h.judged
+    ∙ ap (option_map (λ vs. record { code = f.code; values = vs })) (values_given variables f.code 0 h.texts f.values h.valued))
 
 -- ---- pieces
 
@@ -128,15 +152,7 @@ decimals_given (text ∷ texts) (d ∷ ds) e =
     ap (λ r. option_and_then (λ v. option_map (λ vs. Some v ∷ vs) (all_decimals texts)) (result_ok r)) first ∙ ap (option_map (λ vs. Some d ∷ vs)) (decimals_given texts ds others)
 
 few_is : (values w : List (Option ℤ)) → if_few values ≡ Some w → (length values ≤ 999) × (values ≡ w)
-few_is values w e = by (leb (length values) 999) refl e
-  where
-    by : (t : Bool) → leb (length values) 999 ≡ t → cond t (Some values) None ≡ Some w → (length values ≤ 999) × (values ≡ w)
-    by true p h = (leb-true (length values) 999 p, same_Some values w h)
-    by false p h = absurd cc
-
-length-somes : (ds : List ℤ) → length (map Some ds) ≡ length ds
-length-somes [] = refl
-length-somes (d ∷ ds) = ap suc (length-somes ds)
+few_is values w e = let both = cond_some (leb (length values) 999) values w e in (leb-true (length values) 999 both.0, both.1)
 
 pub parameters_found : (parameters : Option (List ℕ)) (values : List (Option ℤ)) → parameters_of parameters ≡ Some values → AreParameters parameters values
 unfolding parameters_of
@@ -145,7 +161,7 @@ parameters_found (Some text) values e =
     let w = bind_some if_few (all_decimals (split_by ascii.upper_x text)) values e in
     let few = few_is w.0 values w.2 in
     let d = decimals_found (split_by ascii.upper_x text) w.0 w.1 in
-    let same : length w.0 ≡ length d.0 = ap length d.2 ∙ length-somes d.0 in
+    let same : length w.0 ≡ length d.0 = ap length d.2 ∙ length-map d.0 Some in
     (d.0, omega (arith, same, few.0), d.1, sym few.1 ∙ d.2)
 
 pub parameters_given : (parameters : Option (List ℕ)) (values : List (Option ℤ)) → AreParameters parameters values → parameters_of parameters ≡ Some values
@@ -153,7 +169,7 @@ unfolding parameters_of
 parameters_given None values h = ap Some (sym h)
 parameters_given (Some text) values h =
     ap (option_and_then if_few) (decimals_given (split_by ascii.upper_x text) h.0 h.2)
-    ∙ (ap (λ t. cond t (Some (map Some h.0)) None) (le-leb (length (map Some h.0)) 999 (omega (arith, h.1, length-somes h.0))) ∙ ap Some (sym h.3))
+    ∙ (ap (λ t. cond t (Some (map Some h.0)) None) (le-leb (length (map Some h.0)) 999 (omega (arith, h.1, length-map h.0 Some))) ∙ ap Some (sym h.3))
 
 -- ---- macros
 
@@ -164,22 +180,13 @@ macro_exactly pieces parameters values found e = (
 )
 
 pub no_macro : (pieces : List (List ℕ)) (parameters : Option (List ℕ)) (found : List Fields) → parameters_of parameters ≡ None → IsMacro pieces parameters found → ⊥
-no_macro pieces parameters found e h = none_some (sym e ∙ parameters_given parameters h.0 h.1)
-  where
-    none_some : None ≡ Some h.0 → ⊥
-    none_some p = cc
+no_macro pieces parameters found e h = none_some h.0 (sym e ∙ parameters_given parameters h.0 h.1)
 
 -- ---- piece by piece
 
 pub one_more : {A : Type 0} (done : List A) (x : A) (o : Option (List A)) → option_map (λ xs. (done ++ x ∷ []) ++ xs) o ≡ option_map (λ xs. done ++ xs) (option_map (λ xs. x ∷ xs) o)
 one_more done x None = refl
 one_more done x (Some xs) = ap Some (append_assoc done (x ∷ []) xs)
-
--- ---- loops
-
-pub nothing_before : {A : Type 0} (o : Option (List A)) → option_map (λ xs. [] ++ xs) o ≡ o
-nothing_before None = refl
-nothing_before (Some xs) = refl
 
 pub decimals_next : (done : List (Option ℤ)) (parts more : List (List ℕ)) (part : List ℕ) (v : ℤ) → parts ≡ part ∷ more → parse_decimal part ≡ Ok v
     → option_map (λ vs. (done ++ Some v ∷ []) ++ vs) (all_decimals more) ≡ option_map (λ vs. done ++ vs) (all_decimals parts)

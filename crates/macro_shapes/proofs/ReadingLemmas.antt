@@ -1,9 +1,9 @@
 -- Reading gives just the values of the expressions that are written so.
-use Rattle.std.proofs.Common.{◌≡◌, ◌↔◌, ℕ, suc, ◌<◌, ◌≤◌, ℤ, pos, Bool, true, false, cond, ◌&&◌, eqb, ltb, List, [], ◌∷◌, ◌++◌, length, Option, Some, None, refl, sym, ap, subst, ◌∙◌, ◌⊎◌, inl, inr}
-use Rattle.std.specs.Prelude.{is_some, is_none, option_map, option_and_then}
+use Rattle.std.proofs.Common.{◌≡◌, ◌↔◌, ℕ, suc, ◌<◌, ℤ, pos, Bool, true, false, cond, ◌&&◌, eqb, ltb, List, [], ◌∷◌, ◌++◌, length, Option, Some, None, refl, sym, ap, subst, ◌∙◌, ◌⊎◌, inl, inr}
+use Rattle.std.specs.Prelude.{is_some, is_none, option_map, option_and_then, ⊤}
 use Rattle.std.specs.List.{list_any}
-use Rattle.std.proofs.lemmas.Bool.{or_parts, or_from, eqb-true, lt-ltb, ltb-true}
-use Rattle.std.proofs.lemmas.Option.{same_Some}
+use Rattle.std.proofs.lemmas.Bool.{and_parts, or_parts, or_from, eqb-true, lt-ltb, ltb-true}
+use Rattle.std.proofs.lemmas.Option.{cond_some, same_Some}
 use Rattle.std.proofs.lemmas.List.{append-nil, append_assoc}
 use Rattle.macro_shapes.specs.declared.sign.Sign.{Sign}
 use Rattle.macro_shapes.specs.declared.sign.Sign.TheVariants.{Open, Close, Add, Multiply}
@@ -11,11 +11,11 @@ use Rattle.macro_shapes.specs.declared.sign.Addition.{Addition}
 use Rattle.macro_shapes.specs.declared.sign.Addition.TheVariants.{Plus, Minus}
 use Rattle.macro_shapes.specs.declared.sign.Multiplication.{Multiplication}
 use Rattle.macro_shapes.specs.declared.sign.Multiplication.TheVariants.{Times, Over}
-use Rattle.macro_shapes.specs.declared.frames.Frame.{Frame}
+use Rattle.macro_shapes.specs.declared.reading.Frame.{Frame}
 use Rattle.macro_shapes.specs.Signs.{sign_of}
-use Rattle.macro_shapes.specs.Values.{Environment, IsFactor, IsSum, IsTerm, IsValue, added_by, brackets, more_factors, more_terms, multiplied_by, one_factor, one_term, operand, operand_value, signed}
+use Rattle.macro_shapes.specs.Values.{Environment, IsFactor, IsRoundedProduct, IsSum, IsTerm, added_by, brackets, more_factors, more_terms, multiplied_by, one_factor, one_term, operand, operand_value, signed}
 use Rattle.macro_shapes.specs.Inner.Reading.{sum_with, product_with}
-use Rattle.macro_shapes.specs.Inner.Reading.{State, at, frame_after, fresh, start, closed_or, term_of, sum_of, is_before_factor, is_leading, open_bracket, after_brackets, close_bracket, before_sign, after_addition, multiplied_on, step, unless_open, final_value, on_byte, run}
+use Rattle.macro_shapes.specs.Inner.Reading.{State, at, frame_after, fresh, start, closed_or, term_of, sum_of, is_before_factor, is_leading, open_bracket, after_brackets, close_bracket, before_sign, after_addition, multiplied_on, step, unless_open, final_value, rounded_with, final_product, on_byte, run}
 
 -- ---- steps that may have no value
 
@@ -26,19 +26,6 @@ bind_some f (Some x) y e = (x, refl, e)
 pub map_some : {A B : Type 0} (f : A → B) (o : Option A) (y : B) → option_map f o ≡ Some y → (x : A) × (o ≡ Some x) × (f x ≡ y)
 map_some f None y e = absurd cc
 map_some f (Some x) y e = (x, refl, same_Some (f x) y e)
-
-cond_some : {A : Type 0} (t : Bool) (o : Option A) (y : A) → cond t None o ≡ Some y → (t ≡ false) × (o ≡ Some y)
-cond_some true o y e = absurd cc
-cond_some false o y e = (refl, e)
-
-cond_holds : {A : Type 0} (t : Bool) (x y : A) → cond t (Some x) None ≡ Some y → (t ≡ true) × (x ≡ y)
-cond_holds true x y e = (refl, same_Some x y e)
-cond_holds false x y e = absurd cc
-
-both_true : (a b : Bool) → (a && b) ≡ true → (a ≡ true) × (b ≡ true)
-both_true true true e = (refl, refl)
-both_true true false e = absurd cc
-both_true false b e = absurd cc
 
 is_nothing : {A : Type 0} (o : Option A) → is_none o ≡ true → o ≡ None
 is_nothing None e = refl
@@ -60,61 +47,45 @@ none_from (Some s) h = absurd cc
 
 -- the sign of a sum that has a value, and the value by it
 is_sum : (o : Option Sign) (u w v : ℤ) → added_by o u w ≡ Some v → (a : Addition) × (o ≡ Some (Add a)) × (sum_with (Some (u, a)) w ≡ Some v)
-is_sum None u w v e = absurd cc
-is_sum (Some Open) u w v e = absurd cc
-is_sum (Some Close) u w v e = absurd cc
-is_sum (Some (Multiply m)) u w v e = absurd cc
-is_sum (Some (Add Plus)) u w v e = (Plus, refl, e)
-is_sum (Some (Add Minus)) u w v e = (Minus, refl, e)
+is_sum (Some (Add a)) u w v e = (a, refl, e)
+is_sum o u w v e = absurd cc
 
 sum_is : (o : Option Sign) (a : Addition) (u w v : ℤ) → o ≡ Some (Add a) → sum_with (Some (u, a)) w ≡ Some v → added_by o u w ≡ Some v
-sum_is o Plus u w v k e = ap (λ p. added_by p u w) k ∙ e
-sum_is o Minus u w v k e = ap (λ p. added_by p u w) k ∙ e
+sum_is o a u w v k e = ap (λ p. added_by p u w) k ∙ e
 
 -- and those of a product
 is_product : (o : Option Sign) (u w v : ℤ) → multiplied_by o u w ≡ Some v → (m : Multiplication) × (o ≡ Some (Multiply m)) × (product_with (Some (u, m)) w ≡ Some v)
-is_product None u w v e = absurd cc
-is_product (Some Open) u w v e = absurd cc
-is_product (Some Close) u w v e = absurd cc
-is_product (Some (Add a)) u w v e = absurd cc
-is_product (Some (Multiply Times)) u w v e = (Times, refl, e)
-is_product (Some (Multiply Over)) u w v e = (Over, refl, e)
+is_product (Some (Multiply m)) u w v e = (m, refl, e)
+is_product o u w v e = absurd cc
 
 product_is : (o : Option Sign) (m : Multiplication) (u w v : ℤ) → o ≡ Some (Multiply m) → product_with (Some (u, m)) w ≡ Some v → multiplied_by o u w ≡ Some v
-product_is o Times u w v k e = ap (λ p. multiplied_by p u w) k ∙ e
-product_is o Over u w v k e = ap (λ p. multiplied_by p u w) k ∙ e
+product_is o m u w v k e = ap (λ p. multiplied_by p u w) k ∙ e
+
+-- which of the first two rows of the signs is meant by a bracket
+abbrev IsBracket : Sign → Bool → Bool → Type 0
+IsBracket Open o c = o ≡ true
+IsBracket Close o c = c ≡ true
+IsBracket k o c = ⊤
+
+bracket_is : (k : Sign) (o c p m x y s : Bool)
+    → meant (cond o (Some (40, Open)) (cond c (Some (41, Close)) (cond p (Some (43, Add Plus)) (cond m (Some (45, Add Minus)) (cond x (Some (120, Multiply Times)) (cond y (Some (88, Multiply Times)) (cond s (Some (47, Multiply Over)) None))))))) ≡ Some k
+    → IsBracket k o c
+bracket_is k true c p m x y s e = subst (λ k. IsBracket k true c) (same_Some Open k e) refl
+bracket_is k false true p m x y s e = subst (λ k. IsBracket k false true) (same_Some Close k e) refl
+bracket_is k false false true m x y s e = subst (λ k. IsBracket k false false) (same_Some (Add Plus) k e) tt
+bracket_is k false false false true x y s e = subst (λ k. IsBracket k false false) (same_Some (Add Minus) k e) tt
+bracket_is k false false false false true y s e = subst (λ k. IsBracket k false false) (same_Some (Multiply Times) k e) tt
+bracket_is k false false false false false true s e = subst (λ k. IsBracket k false false) (same_Some (Multiply Times) k e) tt
+bracket_is k false false false false false false true e = subst (λ k. IsBracket k false false) (same_Some (Multiply Over) k e) tt
+bracket_is k false false false false false false false e = absurd cc
 
 opens : (b : ℕ) → sign_of b ≡ Some Open → b ≡ 40
 unfolding sign_of
-opens b h = eqb-true b 40 (by (eqb b 40) (eqb b 41) (eqb b 43) (eqb b 45) (eqb b 120) (eqb b 88) (eqb b 47) h)
-  where
-    by : (o c p m x y s : Bool)
-        → meant (cond o (Some (40, Open)) (cond c (Some (41, Close)) (cond p (Some (43, Add Plus)) (cond m (Some (45, Add Minus)) (cond x (Some (120, Multiply Times)) (cond y (Some (88, Multiply Times)) (cond s (Some (47, Multiply Over)) None))))))) ≡ Some Open
-        → o ≡ true
-    by true c p m x y s e = refl
-    by false true p m x y s e = absurd cc
-    by false false true m x y s e = absurd cc
-    by false false false true x y s e = absurd cc
-    by false false false false true y s e = absurd cc
-    by false false false false false true s e = absurd cc
-    by false false false false false false true e = absurd cc
-    by false false false false false false false e = absurd cc
+opens b h = eqb-true b 40 (bracket_is Open (eqb b 40) (eqb b 41) (eqb b 43) (eqb b 45) (eqb b 120) (eqb b 88) (eqb b 47) h)
 
 closes : (b : ℕ) → sign_of b ≡ Some Close → b ≡ 41
 unfolding sign_of
-closes b h = eqb-true b 41 (by (eqb b 40) (eqb b 41) (eqb b 43) (eqb b 45) (eqb b 120) (eqb b 88) (eqb b 47) h)
-  where
-    by : (o c p m x y s : Bool)
-        → meant (cond o (Some (40, Open)) (cond c (Some (41, Close)) (cond p (Some (43, Add Plus)) (cond m (Some (45, Add Minus)) (cond x (Some (120, Multiply Times)) (cond y (Some (88, Multiply Times)) (cond s (Some (47, Multiply Over)) None))))))) ≡ Some Close
-        → c ≡ true
-    by true c p m x y s e = absurd cc
-    by false true p m x y s e = refl
-    by false false true m x y s e = absurd cc
-    by false false false true x y s e = absurd cc
-    by false false false false true y s e = absurd cc
-    by false false false false false true s e = absurd cc
-    by false false false false false false true e = absurd cc
-    by false false false false false false false e = absurd cc
+closes b h = eqb-true b 41 (bracket_is Close (eqb b 40) (eqb b 41) (eqb b 43) (eqb b 45) (eqb b 120) (eqb b 88) (eqb b 47) h)
 
 open_sign : sign_of 40 ≡ Some Open
 unfolding sign_of
@@ -144,6 +115,13 @@ record TermRead (variables : Environment) (outer : List Frame) (before : Option 
   held : List ℕ
   leads : Leads variables (at outer (frame_after before None) None) [] text (at outer (frame_after before factors) closed) held
   gives : option_and_then (product_with factors) (closed_or variables closed held) ≡ Some v
+
+-- a product up to its last factor was read, with the value of what stands before this, and the factor's
+record ProductRead (variables : Environment) (outer : List Frame) (before : Option (ℤ × Addition)) (u : ℤ) (m : Multiplication) (text : List ℕ) (w : ℤ) : Type 0 where
+  closed : Option ℤ
+  held : List ℕ
+  leads : Leads variables (at outer (frame_after before None) None) [] text (at outer (frame_after before (Some (u, m))) closed) held
+  gives : closed_or variables closed held ≡ Some w
 
 -- a sum was read
 record SumRead (variables : Environment) (outer : List Frame) (text : List ℕ) (v : ℤ) : Type 0 where
@@ -204,6 +182,21 @@ module _ (variables : Environment) where
   same_text : (s t : State) (h i whole text : List ℕ) → whole ≡ text → Leads variables s h text t i → Leads variables s h whole t i
   same_text s t h i whole text e l = subst (λ x. Leads variables s h x t i) (sym e) l
 
+  product_read : (text first last : List ℕ) (b : ℕ) (u w : ℤ) (outer : List Frame) (before : Option (ℤ × Addition)) (m : Multiplication) → text ≡ first ++ b ∷ last → sign_of b ≡ Some (Multiply m)
+      → TermRead variables outer before first u → FactorRead variables outer (frame_after before (Some (u, m))) last w → ProductRead variables outer before u m text w
+  product_read text first last b u w outer before m is k r g =
+      let here = at outer (frame_after before r.factors) r.closed in
+      let signed_here = at outer (frame_after before (Some (u, m))) None in
+      let l = sign_read here signed_here r.held b (Multiply m) k (factor_goes_on outer (frame_after before r.factors) r.closed r.held u m r.gives) in
+      let end = at outer (frame_after before (Some (u, m))) g.closed in
+      let rest = joined here signed_here end r.held [] g.held (b ∷ []) last l g.leads in
+      record {
+        closed = g.closed;
+        held = g.held;
+        leads = same_text (at outer (frame_after before None) None) end [] g.held text (first ++ b ∷ last) is (joined (at outer (frame_after before None) None) here end [] r.held g.held first (b ∷ last) r.leads rest);
+        gives = g.gives;
+      }
+
   mutual
     sum_read : (n : ℕ) (text : List ℕ) (v : ℤ) (outer : List Frame) → IsSum variables n text v → n ≡ length outer → SumRead variables outer text v
     sum_read n text v outer (one_term _ _ _ t) fits =
@@ -244,20 +237,8 @@ module _ (variables : Environment) where
         record { factors = None; closed = r.closed; held = r.held; leads = r.leads; gives = ap (option_and_then (product_with None)) r.gives }
     term_read n text v outer before (more_factors _ _ _ first last b u w is t f e) fits =
         let k = is_product (sign_of b) u w v e in
-        let r = term_read n first u outer before t fits in
-        let here = at outer (frame_after before r.factors) r.closed in
-        let signed_here = at outer (frame_after before (Some (u, k.0))) None in
-        let l = sign_read here signed_here r.held b (Multiply k.0) k.1 (factor_goes_on outer (frame_after before r.factors) r.closed r.held u k.0 r.gives) in
-        let g = factor_read n last w outer (frame_after before (Some (u, k.0))) f fits in
-        let end = at outer (frame_after before (Some (u, k.0))) g.closed in
-        let rest = joined here signed_here end r.held [] g.held (b ∷ []) last l g.leads in
-        record {
-          factors = Some (u, k.0);
-          closed = g.closed;
-          held = g.held;
-          leads = same_text (at outer (frame_after before None) None) end [] g.held text (first ++ b ∷ last) is (joined (at outer (frame_after before None) None) here end [] r.held g.held first (b ∷ last) r.leads rest);
-          gives = ap (option_and_then (product_with (Some (u, k.0)))) g.gives ∙ k.2;
-        }
+        let p = product_read text first last b u w outer before k.0 is k.1 (term_read n first u outer before t fits) (factor_read n last w outer (frame_after before (Some (u, k.0))) f fits) in
+        record { factors = Some (u, k.0); closed = p.closed; held = p.held; leads = p.leads; gives = ap (option_and_then (product_with (Some (u, k.0)))) p.gives ∙ k.2 }
 
     factor_read : (n : ℕ) (text : List ℕ) (v : ℤ) (outer : List Frame) (frame : Frame) → IsFactor variables n text v → n ≡ length outer → FactorRead variables outer frame text v
     factor_read n text v outer frame (operand _ _ _ plain value) fits = record { closed = None; held = text; leads = record { by = operand_read (at outer frame None) [] text plain }; gives = value }
@@ -274,11 +255,21 @@ module _ (variables : Environment) where
           gives = refl;
         }
 
-  written_read : (text : List ℕ) (v : ℤ) → IsSum variables 0 text v → run variables start [] text ≡ Some v
+  -- a text that leads to a state at its end is read up to there
+  led_to : (t : State) (held text : List ℕ) → Leads variables start [] text t held → run variables start [] text ≡ Some (t, held)
   unfolding run
+  led_to t held text l = ap (run variables start []) (sym (append-nil text)) ∙ l.by []
+
+  written_read : (text : List ℕ) (v : ℤ) → IsSum variables 0 text v → option_and_then (λ e. final_value variables e.0 e.1) (run variables start [] text) ≡ Some v
   written_read text v h =
       let r = sum_read 0 text v [] h refl in
-      ap (run variables start []) (sym (append-nil text)) ∙ (r.leads.by [] ∙ r.gives)
+      ap (option_and_then (λ e. final_value variables e.0 e.1)) (led_to (at [] r.frame r.closed) r.held text r.leads) ∙ r.gives
+
+  product_written_read : (text : List ℕ) (v : ℤ) → IsRoundedProduct variables text v → option_and_then (λ e. final_product variables e.0 e.1) (run variables start [] text) ≡ Some v
+  product_written_read text v (first, last, b, u, w, is, k, t, f, e) =
+      let p = product_read text first last b u w [] None Times is k (term_read 0 first u [] None t refl) (factor_read 0 last w [] (frame_after None (Some (u, Times))) f refl) in
+      ap (option_and_then (λ e. final_product variables e.0 e.1)) (led_to (at [] (frame_after None (Some (u, Times))) p.closed) p.held text p.leads)
+      ∙ (ap (option_and_then (rounded_with None (Some (u, Times)))) p.gives ∙ e)
 
 -- ---- what is read is written so
 
@@ -392,8 +383,8 @@ module _ (variables : Environment) where
   opened_reached : (s t : State) (held done : List ℕ) (b : ℕ) → sign_of b ≡ Some Open → open_bracket s held ≡ Some t → IsReached variables s held done → IsReached variables t [] (done ++ b ∷ [])
   unfolding open_bracket
   opened_reached s t held done b k e r =
-      let p = cond_holds (is_before_factor s held && ltb (length s.outer) 16) (at (s.frame ∷ s.outer) fresh None) t e in
-      let q = both_true (is_before_factor s held) (ltb (length s.outer) 16) p.0 in
+      let p = cond_some (is_before_factor s held && ltb (length s.outer) 16) (at (s.frame ∷ s.outer) fresh None) t e in
+      let q = and_parts (is_before_factor s held) (ltb (length s.outer) 16) p.0 in
       let none = nothing_held (length s.outer) s.outer s.frame s.closed held r.last q.0 r.at_operand in
       let text : done ++ b ∷ [] ≡ (((r.before ++ r.here) ++ 40 ∷ []) ++ []) ++ [] =
       ap (λ l. l ++ b ∷ []) (r.written ∙ (ap (λ l. (r.before ++ r.here) ++ l) none ∙ append-nil (r.before ++ r.here)))
@@ -462,8 +453,8 @@ module _ (variables : Environment) where
     where
       by : (v : ℤ) → at s.outer (frame_after (Some (v, a)) None) None ≡ t → (u : Bool) → is_leading s held ≡ u → cond u (Some (pos 0)) (sum_of variables s held) ≡ Some v → IsReached variables t [] (done ++ b ∷ [])
       by v same true leading h =
-          let p = both_true (is_before_factor s held) (is_none s.frame.before_term && is_none s.frame.before_factor) leading in
-          let q = both_true (is_none s.frame.before_term) (is_none s.frame.before_factor) p.1 in
+          let p = and_parts (is_before_factor s held) (is_none s.frame.before_term && is_none s.frame.before_factor) leading in
+          let q = and_parts (is_none s.frame.before_term) (is_none s.frame.before_factor) p.1 in
           let last = nothing_held (length s.outer) s.outer s.frame s.closed held r.last p.0 r.at_operand in
           let terms = no_terms (length s.outer) s.frame.before_term r.frame.terms (is_nothing s.frame.before_term q.0) r.frame.first in
           let factors = no_factors (length s.outer) s.frame.before_factor r.frame.factors (is_nothing s.frame.before_factor q.1) r.frame.second in
@@ -515,32 +506,60 @@ module _ (variables : Environment) where
       more None h = (some_sign b held (ap is_some e) h.0, ap (λ l. l ++ b ∷ []) h.1)
       more (Some v) h = (h.0, h.1, ap (λ l. l ++ b ∷ []) h.2 ∙ append_assoc h.0 held (b ∷ []))
 
-  ended_written : (s : State) (held done : List ℕ) (v : ℤ) → IsReached variables s held done → final_value variables s held ≡ Some v → IsSum variables 0 (done ++ []) v
-  ended_written s held done v r h = by s.outer refl r.outer h
+  -- at the end of a text no bracket is open, and it is what stands at the operand
+  at_end : (s : State) (held done : List ℕ) (o : Option ℤ) (v : ℤ) (r : IsReached variables s held done) → unless_open s.outer o ≡ Some v → (length s.outer ≡ 0) × (done ≡ r.here ++ r.last) × (o ≡ Some v)
+  at_end s held done o v r h = by s.outer refl r.outer h
     where
-      by : (outer : List Frame) → s.outer ≡ outer → IsOuter variables outer r.before → unless_open outer (sum_of variables s held) ≡ Some v → IsSum variables 0 (done ++ []) v
-      by [] none o h =
-          let text : done ++ [] ≡ r.here ++ r.last = append-nil done ∙ (r.written ∙ ap (λ l. (l ++ r.here) ++ r.last) o) in
-          subst (λ n. IsSum variables n (done ++ []) v) (ap length none) (subst (λ x. IsSum variables (length s.outer) x v) (sym text) (sum_written s held r.here r.last v r.frame r.at_operand h))
-      by (frame ∷ outer) some o h = absurd cc
+      by : (outer : List Frame) → s.outer ≡ outer → IsOuter variables outer r.before → unless_open outer o ≡ Some v → (length s.outer ≡ 0) × (done ≡ r.here ++ r.last) × (o ≡ Some v)
+      by [] none before e = (ap length none, r.written ∙ ap (λ l. (l ++ r.here) ++ r.last) before, e)
+      by (frame ∷ outer) some before e = absurd cc
 
-  on_written : (b : ℕ) (bs : List ℕ) (v : ℤ) → ((s : State) (held done : List ℕ) → IsReached variables s held done → run variables s held bs ≡ Some v → IsSum variables 0 (done ++ bs) v)
+  ended_written : (s : State) (held done : List ℕ) (v : ℤ) → IsReached variables s held done → final_value variables s held ≡ Some v → IsSum variables 0 done v
+  ended_written s held done v r h =
+      let e = at_end s held done (sum_of variables s held) v r h in
+      subst (λ n. IsSum variables n done v) e.0 (subst (λ x. IsSum variables (length s.outer) x v) (sym e.1) (sum_written s held r.here r.last v r.frame r.at_operand e.2))
+
+  product_from : (before : Option (ℤ × Addition)) (factors : Option (ℤ × Multiplication)) (here terms text last done : List ℕ) (w v : ℤ) → IsBeforeTerm variables 0 before terms → IsBeforeFactor variables 0 factors text → here ≡ terms ++ text
+      → IsFactor variables 0 last w → done ≡ here ++ last → rounded_with before factors w ≡ Some v → IsRoundedProduct variables done v
+  product_from None (Some (u, Times)) here terms text last done w v first (left, b, is, k, t) both f whole e =
+      (left, last, b, u, w, whole ∙ (ap (λ l. l ++ last) (both ∙ (λ i. first i ++ is i)) ∙ append_assoc left (b ∷ []) last), k, t, f, e)
+  product_from _ _ here terms text last done w v first second both f whole e = absurd cc
+
+  product_ended : (s : State) (held done : List ℕ) (v : ℤ) → IsReached variables s held done → final_product variables s held ≡ Some v → IsRoundedProduct variables done v
+  product_ended s held done v r h =
+      let e = at_end s held done (option_and_then (rounded_with s.frame.before_term s.frame.before_factor) (closed_or variables s.closed held)) v r h in
+      let w = bind_some (rounded_with s.frame.before_term s.frame.before_factor) (closed_or variables s.closed held) v e.2 in
+      product_from s.frame.before_term s.frame.before_factor r.here r.frame.terms r.frame.factors r.last done w.0 v
+      (subst (λ n. IsBeforeTerm variables n s.frame.before_term r.frame.terms) e.0 r.frame.first) (subst (λ n. IsBeforeFactor variables n s.frame.before_factor r.frame.factors) e.0 r.frame.second) r.frame.written
+      (subst (λ n. IsFactor variables n r.last w.0) e.0 (factor_written (length s.outer) s.closed held r.last w.0 r.at_operand w.1)) e.1 w.2
+
+  on_reached : (b : ℕ) (bs : List ℕ) (e : State × List ℕ) → ((s : State) (held done : List ℕ) → IsReached variables s held done → run variables s held bs ≡ Some e → IsReached variables e.0 e.1 (done ++ bs))
       → (s : State) (held done : List ℕ) → IsReached variables s held done → (k : Option Sign) → sign_of b ≡ k
-      → on_byte k (run variables s (held ++ b ∷ []) bs) (λ k. option_and_then (λ t. run variables t [] bs) (step variables s held k)) ≡ Some v → IsSum variables 0 (done ++ b ∷ bs) v
-  on_written b bs v again s held done r None e h =
-      subst (λ l. IsSum variables 0 l v) (append_assoc done (b ∷ []) bs) (again s (held ++ b ∷ []) (done ++ b ∷ []) (byte_reached s held done b e r) h)
-  on_written b bs v again s held done r (Some k) e h =
-      let w = bind_some (λ t. run variables t [] bs) (step variables s held k) v h in
-      subst (λ l. IsSum variables 0 l v) (append_assoc done (b ∷ []) bs) (again w.0 [] (done ++ b ∷ []) (step_reached s w.0 held done b k e w.1 r) w.2)
+      → on_byte k (run variables s (held ++ b ∷ []) bs) (λ k. option_and_then (λ t. run variables t [] bs) (step variables s held k)) ≡ Some e → IsReached variables e.0 e.1 (done ++ b ∷ bs)
+  on_reached b bs e again s held done r None k h =
+      subst (λ l. IsReached variables e.0 e.1 l) (append_assoc done (b ∷ []) bs) (again s (held ++ b ∷ []) (done ++ b ∷ []) (byte_reached s held done b k r) h)
+  on_reached b bs e again s held done r (Some sign) k h =
+      let w = bind_some (λ t. run variables t [] bs) (step variables s held sign) e h in
+      subst (λ l. IsReached variables e.0 e.1 l) (append_assoc done (b ∷ []) bs) (again w.0 [] (done ++ b ∷ []) (step_reached s w.0 held done b sign k w.1 r) w.2)
 
-  run_written : (bs : List ℕ) (v : ℤ) (s : State) (held done : List ℕ) → IsReached variables s held done → run variables s held bs ≡ Some v → IsSum variables 0 (done ++ bs) v
+  run_reached : (bs : List ℕ) (e : State × List ℕ) (s : State) (held done : List ℕ) → IsReached variables s held done → run variables s held bs ≡ Some e → IsReached variables e.0 e.1 (done ++ bs)
   unfolding run
-  run_written [] v s held done r h = ended_written s held done v r h
-  run_written (b ∷ bs) v s held done r h = on_written b bs v (run_written bs v) s held done r (sign_of b) refl h
+  run_reached [] e s held done r h = subst (λ x. IsReached variables x.0 x.1 (done ++ [])) (same_Some (s, held) e h) (subst (λ l. IsReached variables s held l) (sym (append-nil done)) r)
+  run_reached (b ∷ bs) e s held done r h = on_reached b bs e (run_reached bs e) s held done r (sign_of b) refl h
 
   start_reached : IsReached variables start [] []
   start_reached = record { before = []; here = []; last = []; outer = refl; frame = fresh_frame 0; at_operand = none_held 0; written = refl }
 
 -- reading gives a value just where the text is the writing of an expression with it
-pub read_exactly : (variables : Environment) (text : List ℕ) (v : ℤ) → length text ≤ 1000 → (run variables start [] text ≡ Some v) ↔ IsValue variables text v
-read_exactly variables text v short = (λ h. (short, run_written variables text v start [] [] (start_reached variables) h), λ h. written_read variables text v h.1)
+pub read_exactly : (variables : Environment) (text : List ℕ) (v : ℤ) → (option_and_then (λ e. final_value variables e.0 e.1) (run variables start [] text) ≡ Some v) ↔ IsSum variables 0 text v
+read_exactly variables text v = (
+  λ h. let w = bind_some (λ e. final_value variables e.0 e.1) (run variables start [] text) v h in ended_written variables w.0.0 w.0.1 text v (run_reached variables text w.0 start [] [] (start_reached variables) w.1) w.2,
+  written_read variables text v,
+)
+
+-- and a rounded product just where it is one as a whole
+pub product_exactly : (variables : Environment) (text : List ℕ) (v : ℤ) → (option_and_then (λ e. final_product variables e.0 e.1) (run variables start [] text) ≡ Some v) ↔ IsRoundedProduct variables text v
+product_exactly variables text v = (
+  λ h. let w = bind_some (λ e. final_product variables e.0 e.1) (run variables start [] text) v h in product_ended variables w.0.0 w.0.1 text v (run_reached variables text w.0 start [] [] (start_reached variables) w.1) w.2,
+  product_written_read variables text v,
+)

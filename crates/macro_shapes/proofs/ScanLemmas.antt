@@ -1,5 +1,5 @@
 -- One byte more of an expression that is read.
-use Rattle.macro_shapes.proofs.Common.{◌≡◌, ℕ, ◌+◌, ◌-◌, ◌<◌, ◌≤◌, List, [], ◌∷◌, ◌++◌, length, take, drop, get_or, Option, Some, None, sym, ap, ◌∙◌, arith, option_and_then, drop_more, take_more, drop-take, take_rest, take_all, drop-append-le, drop_all, length-take, length-take-le, Environment, State, step, on_byte, run, final_value}
+use Rattle.macro_shapes.proofs.Common.{◌≡◌, ℕ, ◌+◌, ◌-◌, ◌<◌, ◌≤◌, List, [], ◌∷◌, ◌++◌, length, take, drop, get_or, Option, Some, None, sym, ap, ◌∙◌, arith, option_and_then, drop_more, take_more, drop-take, take_rest, take_all, drop-append-le, drop_all, length-take, length-take-le, Environment, State, step, on_byte, run}
 use Rattle.macro_shapes.specs.declared.sign.Sign.{Sign}
 use Rattle.macro_shapes.specs.Signs.{sign_of}
 
@@ -41,7 +41,7 @@ module _ (variables : Environment) where
   sign_fails s text begin i d k within e h = on_sign s (drop begin (take i text)) text i d k None within e h
 
   -- at the end of the text
-  pub text_ends : (s : State) (text : List ℕ) (begin n : ℕ) → length text ≤ n → run variables s (drop begin (take n text)) (drop n text) ≡ final_value variables s (drop begin (take n text))
+  pub text_ends : (s : State) (text : List ℕ) (begin n : ℕ) → length text ≤ n → run variables s (drop begin (take n text)) (drop n text) ≡ Some (s, drop begin (take n text))
   unfolding run
   text_ends s text begin n h = ap (run variables s (drop begin (take n text))) (drop_all n text h)
 

@@ -1,6 +1,8 @@
 -- Each point of a macro's shape is a point of one of its primitives.
-use Rattle.macro_shapes.proofs.Common.{◌≡◌, ℕ, suc, ℤ, pos, ◌+◌, ◌*◌, ◌/◌, ◌≤◌, ◌<◌, ◌≤ℤ◌, ◌<ℤ◌, ◌+ℤ◌, ◌-ℤ◌, ◌*ℤ◌, unsigned_abs, Bool, true, false, cond, not, eqb, List, [], ◌∷◌, length, Option, None, Some, refl, sym, ap, subst, ◌∙◌, ◌⊎◌, inl, inr, arith, ◌&&◌, ◌||◌, nat_le, nat_lt, int_lt, option_and_then, int_min, int_max, Contains, fold, int_eq, and_parts, and_from, false≢true, Decides-int_eq, nat_tests, ints, clamps, by_lt_z, unsigned_abs-mul, All-contains, mul-le, option_or, cond_some, option_and_then_some, same_Some, GridPoint, max_coordinate, square, square_distance, square-le, GridRounded, edges, corners, cross, along, square_edge, is_deep_left_of_all, is_deep_inside, has_area, is_convex, is_outline, IsNear, IsInRounded, is_n, is_sub, is_mul, same, of_natural, edge, no_area, parts_of, area_of, no_times, no_cross, IsInLine, IsInRectangle, is_same, rounded_of, least, discs_in_turn, disc_at, line_along, border, rectangle_of, rectangle_about, rectangle_along, other_end, rounded_or_along, with_border, do_cross, second_crossing, cross_shape, centre_shape, ShapeIsInPrimitives, Primitive}
+use Rattle.macro_shapes.proofs.Common.{◌≡◌, ℕ, suc, ℤ, pos, ◌+◌, ◌*◌, ◌/◌, ◌≤◌, ◌<◌, ◌≤ℤ◌, ◌<ℤ◌, ◌+ℤ◌, ◌-ℤ◌, ◌*ℤ◌, unsigned_abs, Bool, true, false, cond, not, eqb, List, [], ◌∷◌, length, Option, None, Some, refl, sym, ap, subst, ◌∙◌, ◌⊎◌, inl, inr, arith, ◌&&◌, ◌||◌, nat_le, nat_lt, int_lt, option_and_then, int_min, int_max, Contains, fold, int_eq, and_parts, and_from, false≢true, Decides-int_eq, nat_tests, ints, clamps, by_lt_z, unsigned_abs-mul, All-contains, mul-le, option_or, cond_some, option_and_then_some, same_Some, GridPoint, max_coordinate, square, square_distance, square-le, GridRounded, edges, corners, cross, along, square_edge, is_deep_left_of_all, is_deep_inside, has_area, is_convex, is_outline, IsNear, IsInRounded, is_n, is_sub, is_mul, same, of_natural, edge, no_area, parts_of, area_of, no_times, no_cross, IsInLine, IsInRectangle, is_same, rounded_of, least, discs_in_turn, disc_at, line_along, border, rectangle_of, rectangle_about, rectangle_along, segment, with_border, do_cross, second_crossing, cross_shape, centre_shape, ShapeIsInPrimitives, Primitive}
+use Rattle.macro_shapes.specs.Primitives.{IsInCircle}
 use Rattle.std.specs.Prelude.{unwrap_or}
+use Rattle.std.specs.Option.{option_map_or}
 use Rattle.pad_shapes.specs.Inner.RoundedSets.{one_corner_is_disc, polygon_is_left_of_edges}
 use Rattle.macro_shapes.proofs.BordersInTurn.{border_is}
 use Rattle.macro_shapes.proofs.BorderLemmas.{IsAtLeast, IsInSome, same_point, in_circle, near_corner, near_edge, corners_given, edges_given}
@@ -40,11 +42,10 @@ bordered qs first (b ∷ bs) size h outline p inside =
 first_of_list : (q : Primitive) (qs : List Primitive) → Contains (q ∷ qs) q
 first_of_list q qs = (0, omega arith, refl)
 
-circle_inside : (qs : List Primitive) (c : GridPoint) (d : ℕ) (s : GridRounded) → rounded_of c [] d ≡ Some s → (p : GridPoint) → IsInRounded s p → IsInSome (primitive.Circle c d ∷ qs) p
-circle_inside qs c d s h p inside =
+disc_inside : (c : GridPoint) (d : ℕ) (s : GridRounded) → rounded_of c [] d ≡ Some s → (p : GridPoint) → IsInRounded s p → IsInCircle c d p
+disc_inside c d s h p inside =
     let parts = rounded_parts c [] d s h in
-    let disc = (one_corner_is_disc c (d / 2) p).0 (subst (λ r. IsInRounded r p) (sym parts.0) inside) in
-    (primitive.Circle c d, first_of_list (primitive.Circle c d) qs, in_circle (square_distance p c) d d (omega arith) disc)
+    in_circle (square_distance p c) d d (omega arith) ((one_corner_is_disc c (d / 2) p).0 (subst (λ r. IsInRounded r p) (sym parts.0) inside))
 
 -- a line has no area
 no_inside : (a b : GridPoint) → has_area (with_radius a (b ∷ []) 0) ≡ true → ⊥
@@ -82,10 +83,6 @@ record IsSecond (qs : List Primitive) (c : GridPoint) (w h : ℕ) (other : ℕ �
   among : (p : GridPoint) → IsInRectangle c other.0 other.1 p → IsInSome qs p
 
 second_is : (qs : List Primitive) (c : GridPoint) (w h : ℕ) (other : ℕ × ℕ) → second_crossing c w h qs ≡ Some other → IsSecond qs c w h other
-second_is [] c w h other e = absurd cc
-second_is (q ∷ []) c w h other e = absurd cc
-second_is (q ∷ primitive.Circle a d ∷ qs) c w h other e = absurd cc
-second_is (q ∷ primitive.VectorLine a b d ∷ qs) c w h other e = absurd cc
 second_is (q ∷ primitive.CentreLine a v g ∷ qs) c w h other e =
     let made = cond_some {A = ℕ × ℕ} (is_same a c && do_cross w h v g) (v, g) other e in
     let both = and_parts (is_same a c) (do_cross w h v g) made.0 in
@@ -93,7 +90,7 @@ second_is (q ∷ primitive.CentreLine a v g ∷ qs) c w h other e =
       crosses = subst (λ (o : ℕ × ℕ). do_cross w h o.0 o.1 ≡ true) made.1 both.1;
       among = λ p inside. (primitive.CentreLine a v g, (1, omega arith, refl), subst (λ z. IsInRectangle z v g p) (sym (same_point a c both.0)) (subst (λ (o : ℕ × ℕ). IsInRectangle c o.0 o.1 p) (sym made.1) inside));
     }
-second_is (q ∷ primitive.Outline r ∷ qs) c w h other e = absurd cc
+second_is _ c w h other e = absurd cc
 
 -- a centre line, with the one that crosses it or alone
 centre_shape_inside : (qs : List Primitive) (c : GridPoint) (w h : ℕ) (s : GridRounded) → centre_shape (primitive.CentreLine c w h ∷ qs) c w h ≡ Some s → (p : GridPoint) → IsInRounded s p → IsInSome (primitive.CentreLine c w h ∷ qs) p
@@ -298,17 +295,18 @@ outline_inside qs r (Some size) s e h p inside =
 
 -- ---- the law
 
-vector_inside : (qs : List Primitive) (a b : GridPoint) (w : ℕ) (o : Option ℕ) (s : GridRounded) → border (primitive.VectorLine a b w ∷ qs) (with_radius a (other_end a b) 0) ≡ o → rounded_or_along a b w o ≡ Some s → (p : GridPoint) → IsInRounded s p
+vector_inside : (qs : List Primitive) (a b : GridPoint) (w : ℕ) (o : Option ℕ) (s : GridRounded) → border (primitive.VectorLine a b w ∷ qs) (segment a b) ≡ o → option_map_or (rounded_of a (segment a b).others) o (rectangle_along a b w) ≡ Some s → (p : GridPoint) → IsInRounded s p
     → IsInSome (primitive.VectorLine a b w ∷ qs) p
 vector_inside qs a b w None s e h p inside = (primitive.VectorLine a b w, first_of_list (primitive.VectorLine a b w) qs, line_inside a b w s h p inside)
 vector_inside qs a b w (Some size) s e h p inside =
-    let parts = rounded_parts a (other_end a b) size s h in
+    let parts = rounded_parts a (segment a b).others size s h in
     rounded_line (primitive.VectorLine a b w ∷ qs) a b size (is_same a b) e parts.1 p (subst (λ z. IsInRounded z p) (sym parts.0) inside)
 
 pub shape_is_in_primitives : ShapeIsInPrimitives
 shape_is_in_primitives [] s h p inside = absurd cc
-shape_is_in_primitives (primitive.Circle c d ∷ qs) s h p inside = circle_inside qs c d s h p inside
+shape_is_in_primitives (primitive.Circle c d ∷ qs) s h p inside = (primitive.Circle c d, first_of_list (primitive.Circle c d) qs, disc_inside c d s h p inside)
 shape_is_in_primitives (primitive.VectorLine a b w ∷ qs) s h p inside =
-    vector_inside qs a b w (border (primitive.VectorLine a b w ∷ qs) (with_radius a (other_end a b) 0)) s refl h p inside
+    vector_inside qs a b w (border (primitive.VectorLine a b w ∷ qs) (segment a b)) s refl h p inside
 shape_is_in_primitives (primitive.CentreLine c w l ∷ qs) s h p inside = centre_shape_inside qs c w l s h p inside
 shape_is_in_primitives (primitive.Outline r ∷ qs) s h p inside = outline_inside qs r (border (primitive.Outline r ∷ qs) r) s refl h p inside
+shape_is_in_primitives (primitive.Polygon d ∷ qs) s h p inside = (primitive.Polygon d, first_of_list (primitive.Polygon d) qs, disc_inside (record { x = pos 0; y = pos 0 }) d s h p inside)

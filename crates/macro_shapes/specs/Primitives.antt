@@ -1,6 +1,5 @@
--- The primitives of a macro that are judged, all of them dark, and their points (Gerber format, Aperture macro AM). Lengths are whole picometres, and
--- points lie about the point of the flash.
-use Rattle.std.specs.Prelude.{◌≡◌, ℕ, ℤ, pos, ◌-◌, ◌*◌, ◌/◌, ◌%◌, ◌<◌, ◌≤◌, ◌≤ℤ◌, neg_ℤ, Bool, true, not, ◌&&◌, ◌==◌, nat_le, nat_lt, int_lt, unsigned_abs, List, [], ◌∷◌, length, take, drop, zip, reverse, get_or, if◌then◌else◌, Option, None, Some, option_map, option_and_then}
+-- The dark primitives of a macro that are judged, and their points, in whole pm about the point of the flash (Gerber format, Aperture macro AM).
+use Rattle.std.specs.Prelude.{◌≡◌, ℕ, ℤ, pos, ◌-◌, ◌*◌, ◌/◌, ◌%◌, ◌^◌, ◌<◌, ◌≤◌, ◌≤ℤ◌, neg_ℤ, Bool, true, not, ◌&&◌, ◌==◌, nat_le, nat_lt, int_lt, int_le, unsigned_abs, List, [], ◌∷◌, length, take, drop, zip, reverse, get_or, slice_get, if◌then◌else◌, Option, None, Some, option_map, option_and_then}
 use Rattle.std.specs.Option.{option_or}
 use Rattle.std.specs.Result.{result_ok}
 use Rattle.std.specs.List.{filter_map, list_any}
@@ -22,8 +21,7 @@ use Rattle.macro_shapes.specs.declared.primitive.Primitive.TheVariants as primit
 abbrev pub IsInCircle : GridPoint → ℕ → GridPoint → Type 0
 IsInCircle centre diameter p = 4 * square_distance p centre ≤ square diameter
 
--- p lies beside the line from one end to the other, and no further from it than half of the width: a rectangle with the line in its
--- middle, and no points where the ends are equal (Gerber format, Vector line, code 20)
+-- p lies beside the line from one end to another, no further from it than half of the width: in a rectangle (Gerber format, Vector line, code 20)
 pub record IsInLine (e : Edge) (width : ℕ) (p : GridPoint) : Type 0 where
   pub some : 0 < square_edge e
   pub after : pos 0 ≤ℤ along e p
@@ -35,17 +33,17 @@ abbrev pub IsInRectangle : GridPoint → ℕ → ℕ → GridPoint → Type 0
 IsInRectangle centre width height p = (2 * abs_diff p.x centre.x ≤ width) × (2 * abs_diff p.y centre.y ≤ height)
 
 -- the points of a primitive; those of an outline lie to the right of no edge of a convex polygon, and a flat outline has none (Gerber
--- format, Outline, code 4)
+-- format, Outline, code 4); of a regular polygon the points of the disc inside of it
 abbrev pub IsInPrimitive : Primitive → GridPoint → Type 0
 IsInPrimitive (primitive.Circle centre diameter) p = IsInCircle centre diameter p
 IsInPrimitive (primitive.VectorLine from to width) p = IsInLine (record { from = from; to = to }) width p
 IsInPrimitive (primitive.CentreLine centre width height) p = IsInRectangle centre width height p
 IsInPrimitive (primitive.Outline corners) p = is_deep_inside corners 0 p ≡ true
+IsInPrimitive (primitive.Polygon inner) p = IsInCircle (record { x = pos 0; y = pos 0 }) inner p
 
 -- ---- values of fields
 
--- the number of quarter turns counterclockwise, 0 to 3, of a rotation in units of 10^-8 degrees; none of another angle (Gerber format,
--- Rotation parameter)
+-- the quarter turns counterclockwise, 0 to 3, of a rotation in 10^-8 degrees; none of another angle (Gerber format, Rotation parameter)
 abbrev pub quarter_turns : ℤ → Option ℕ
 quarter_turns rotation =
     if unsigned_abs rotation % 9000000000 == 0 then Some (if int_lt rotation (pos 0) then (4 - unsigned_abs rotation / 9000000000 % 4) % 4 else unsigned_abs rotation / 9000000000 % 4)
@@ -137,8 +135,7 @@ abbrev pub are_different : List GridPoint → Bool
 are_different [] = true
 are_different (p ∷ ps) = not (list_any (is_same p) ps) && are_different ps
 
--- a rounded polygon with half of a size for its radius, where these are one corner, two different ones, or those of a convex polygon
--- counterclockwise
+-- a rounded polygon with half of a size for its radius: of one corner, two different ones, or those of a convex polygon counterclockwise
 abbrev pub rounded_of : GridPoint → List GridPoint → ℕ → Option GridRounded
 rounded_of first others size =
     if nat_lt (length others) max_corners && (nat_le (size / 2) max_half_side && is_outline first others) then Some (record { first = first; others = others; radius = size / 2 }) else None
@@ -166,16 +163,34 @@ abbrev pub outline_at : Units → ℤ → ℤ → List ℤ → ℤ → Option Pr
 outline_at unit exposure count coordinates rotation =
     if is_count count (length coordinates) then option_and_then (λ turns. option_and_then outline_of (run_of unit turns coordinates)) (dark_turns exposure rotation) else None
 
+-- ---- regular polygons
+
+-- cos(pi / n) for n from 3 to 12, in 10^-18 and rounded down: a side of a regular polygon of n corners is so far from its centre, in radii of its corners
+abbrev pub cosines : List ℕ
+cosines = 500000000000000000 ∷ 707106781186547524 ∷ 809016994374947424 ∷ 866025403784438646 ∷ 900968867902419126 ∷ 923879532511286756
+    ∷ 939692620785908384 ∷ 951056516295153572 ∷ 959492973614497389 ∷ 965925826289068286 ∷ []
+
+-- the cosine for a number of corners, which is a whole number from 3 to 12
+abbrev pub cosine_of : ℤ → Option ℕ
+cosine_of v = if int_le (pos 300000000) v && (unsigned_abs v % 100000000 == 0) then slice_get cosines (unsigned_abs v / 100000000 - 3) else None
+
+-- a regular polygon about the point of the flash, dark, turned by any angle: the diameter of the disc inside of it (Gerber format, Polygon, code 5)
+abbrev pub polygon_at : Units → ℤ → ℤ → ℤ → ℤ → ℤ → Option Primitive
+polygon_at unit exposure corners x y diameter =
+    if int_eq exposure (pos 100000000) && (int_eq x (pos 0) && int_eq y (pos 0))
+    then option_and_then (λ k. option_map (λ d. primitive.Polygon (d * k / 10 ^ 18)) (size_of unit diameter)) (cosine_of corners) else None
+
 -- ---- all primitives
 
--- The primitive that fields spell, where it is judged (Gerber format, Circle, code 1; Vector line, code 20; Center line, code 21; Outline, code 4).
--- The angle of its rotation stands last, and may be left out of a circle; the coordinates of an outline end with those of its first point again.
+-- The primitive that fields spell, where it is judged (Gerber format, Circle, code 1; Vector line, 20; Center line, 21; Outline, 4; Polygon, 5). The
+-- angle of its rotation stands last, and may be left out of a circle; the coordinates of an outline end with those of its first point again.
 abbrev pub primitive_by_code : Code → Units → List ℤ → Option Primitive
 primitive_by_code code.Circle unit (exposure ∷ diameter ∷ x ∷ y ∷ []) = option_and_then (circle_at unit diameter x y) (dark_turns exposure (pos 0))
 primitive_by_code code.Circle unit (exposure ∷ diameter ∷ x ∷ y ∷ angle ∷ []) = option_and_then (circle_at unit diameter x y) (dark_turns exposure angle)
 primitive_by_code code.VectorLine unit (exposure ∷ width ∷ x1 ∷ y1 ∷ x2 ∷ y2 ∷ angle ∷ []) = option_and_then (line_at unit width x1 y1 x2 y2) (dark_turns exposure angle)
 primitive_by_code code.CentreLine unit (exposure ∷ width ∷ height ∷ x ∷ y ∷ angle ∷ []) = option_and_then (rectangle_at unit width height x y) (dark_turns exposure angle)
 primitive_by_code code.Outline unit (exposure ∷ count ∷ rest) = outline_at unit exposure count (take (length rest - 1) rest) (get_or rest (length rest - 1) (pos 0))
+primitive_by_code code.Polygon unit (exposure ∷ corners ∷ x ∷ y ∷ diameter ∷ angle ∷ []) = polygon_at unit exposure corners x y diameter
 primitive_by_code _ unit _ = None
 
 -- the primitives that fields spell, where each of them is judged

@@ -83,8 +83,7 @@ abbrev pub crossing_sides : GridPoint → ℕ → ℕ → Primitive → Option (
 crossing_sides c w h (primitive.CentreLine centre width height) = if is_same centre c && do_cross w h width height then Some (width, height) else None
 crossing_sides c w h _ = None
 
--- the least of the diameters of the circles at the corners of the part that two rectangles have in common, the difference of their widths and that of
--- their heights, where no circle is missing
+-- the least of the circles at the corners of the common part of two rectangles and of the differences of their widths and heights, if no circle is missing
 unfoldable pub cross_border : List Primitive → GridRounded → ℕ → ℕ → Option ℕ
 cross_border qs common widths heights = least_of (map (disc_at qs) (corners common) ++ Some widths ∷ Some heights ∷ [])
 
@@ -110,6 +109,7 @@ shape_from qs (primitive.Circle centre diameter) = rounded_of centre [] diameter
 shape_from qs (primitive.VectorLine from to width) = line_shape qs from to width
 shape_from qs (primitive.CentreLine centre width height) = centre_shape qs centre width height
 shape_from qs (primitive.Outline corners) = with_border corners (unwrap_or (border qs corners) 0)
+shape_from qs (primitive.Polygon inner) = rounded_of (record { x = pos 0; y = pos 0 }) [] inner
 
 -- the shape of a macro with these primitives, by its first one; the others, all dark, only add to it
 abbrev pub shape_of : List Primitive → Option GridRounded

@@ -1,6 +1,6 @@
 -- The values of expressions in a macro (Gerber format, Aperture macro AM, Arithmetic expressions). A value is a whole number of 10^-8
--- of the file's unit. What would have to be rounded has no value.
-use Rattle.std.specs.Prelude.{◌≡◌, ℕ, suc, ◌<◌, ℤ, pos, neg_ℤ, ◌+ℤ◌, ◌-ℤ◌, ◌-◌, ◌*◌, ◌/◌, ◌%◌, ◌^◌, ◌≤◌, Bool, false, not, ◌||◌, ◌==◌, nat_le, int_lt, unsigned_abs, List, [], ◌∷◌, ◌++◌, length, get_or, if◌then◌else◌, Option, None, Some, is_some, codes}
+-- of the file's unit. What would have to be rounded has no value, but for a diameter that is a product.
+use Rattle.std.specs.Prelude.{◌≡◌, ℕ, suc, ◌<◌, ℤ, pos, neg_ℤ, ◌+ℤ◌, ◌-ℤ◌, ◌-◌, ◌*◌, ◌/◌, ◌%◌, ◌^◌, ◌≤◌, Bool, false, not, ◌||◌, ◌==◌, ◌⊎◌, nat_le, int_lt, unsigned_abs, List, [], ◌∷◌, ◌++◌, length, get_or, if◌then◌else◌, Option, None, Some, is_some, codes}
 use Rattle.std.specs.Result.{result_ok}
 use Rattle.std.specs.List.{list_any}
 use Rattle.grid_units.specs.Ascii as ascii
@@ -43,6 +43,10 @@ have_other_signs a b = if int_lt a (pos 0) then not (int_lt b (pos 0)) else int_
 -- a times b, exactly: the v of v * 10^8 = a * b
 abbrev pub product : ℤ → ℤ → Option ℤ
 product a b = exact_quotient (have_other_signs a b) (unsigned_abs a * unsigned_abs b) (10 ^ 8)
+
+-- a times b, rounded down, where their signs are the same: the greatest v with v * 10^8 at most a * b
+abbrev pub product_below : ℤ → ℤ → Option ℤ
+product_below a b = if have_other_signs a b then None else in_range (pos (unsigned_abs a * unsigned_abs b / 10 ^ 8))
 
 -- a divided by b, exactly: the v of v * b = a * 10^8; none where b is 0
 abbrev pub quotient : ℤ → ℤ → Option ℤ
@@ -95,3 +99,12 @@ mutual
 -- a text of at most 1000 bytes is an expression with this value
 abbrev pub IsValue : Environment → List ℕ → ℤ → Type 0
 IsValue variables text v = (length text ≤ 1000) × IsSum variables 0 text v
+
+-- a text is a product as a whole, such as `1.08239X$1`, of two values; v is that product, rounded down
+abbrev pub IsRoundedProduct : Environment → List ℕ → ℤ → Type 0
+IsRoundedProduct variables text v = (first last : List ℕ) × (b : ℕ) × (u w : ℤ) × (text ≡ first ++ b ∷ last) × (sign_of b ≡ Some (Multiply Times))
+    × IsTerm variables 0 first u × IsFactor variables 0 last w × (product_below u w ≡ Some v)
+
+-- a text of at most 1000 bytes spells a diameter with this value: that of the expression or, where it has none, of a product, rounded down
+abbrev pub IsDiameter : Environment → List ℕ → ℤ → Type 0
+IsDiameter vars text v = IsValue vars text v ⊎ (((u : ℤ) → IsValue vars text u → ⊥) × (length text ≤ 1000) × IsRoundedProduct vars text v)

@@ -1,7 +1,7 @@
 //! Exact arithmetic of values: what would have to be rounded, or is out of range, has none.
 
 ghost use Rattle.std.specs.Prelude.{◌≡◌};
-ghost use Rattle.macro_shapes.specs.Values.{in_range, exact_quotient, have_other_signs, product, quotient};
+ghost use Rattle.macro_shapes.specs.Values.{in_range, exact_quotient, have_other_signs, product, product_below, quotient};
 ghost use Rattle.macro_shapes.specs.Inner.Reading.{sum_with, product_with};
 
 use crate::sign::{Addition, Multiplication};
@@ -54,6 +54,22 @@ fn product(a: Dec, b: Dec) -> Option<Dec>
     let b = b.units();
     let dividend = u128::from(a.unsigned_abs()) * u128::from(b.unsigned_abs());
     exact_quotient(have_other_signs(a, b), dividend, ONE)
+}
+
+/// The product of two values rounded down, where their signs are the same.
+pub(crate) fn product_below(a: Dec, b: Dec) -> Option<Dec>
+    ensures { result ≡ product_below a b }
+{
+    let a = a.units();
+    let b = b.units();
+    if have_other_signs(a, b) {
+        return None;
+    }
+    let product = u128::from(a.unsigned_abs()) * u128::from(b.unsigned_abs()) / ONE;
+    if MAX_UNITS < product {
+        return None;
+    }
+    in_range(product as i64)
 }
 
 /// The exact quotient of two values.

@@ -1,9 +1,9 @@
 //! Expressions of a macro: their values.
 
-ghost use Rattle.std.specs.Prelude.{◌≡◌, ◌↔◌, ℤ, [], Some};
+ghost use Rattle.std.specs.Prelude.{◌≡◌, ◌↔◌, ℤ, [], Some, option_map};
 ghost use Rattle.macro_shapes.specs.Values.{lookup, IsValue};
-ghost use Rattle.macro_shapes.specs.Inner.Reading.{start, run};
-ghost use Rattle.macro_shapes.specs.Inner.Pieces.{value_of};
+ghost use Rattle.macro_shapes.specs.Inner.Reading.{start, state, run};
+ghost use Rattle.macro_shapes.specs.Inner.Pieces.{value_of, diameter_of};
 
 use crate::reading::Reading;
 use crate::sign::sign_of;
@@ -30,12 +30,28 @@ pub(crate) fn read(text: &[u8], variables: &Variables) -> Option<Dec>
     if MAX_TEXT < text.len() {
         return None;
     }
-    scan(text, variables)
+    let (reading, last) = scan(text, variables)?;
+    reading.finish(last, variables)
 }
 
-/// Reads an expression sign by sign.
-fn scan(text: &[u8], variables: &Variables) -> Option<Dec>
-    ensures { result ≡ run (lookup variables.now) start [] text.now }
+/// The value of a diameter: the exact one, or else that of a product, rounded down.
+#[tactic(auto, unfolding(crate::specs::Inner::Pieces::value_of))]
+pub(crate) fn read_diameter(text: &[u8], variables: &Variables) -> Option<Dec>
+    ensures { result ≡ diameter_of (lookup variables.now) text.now }
+{
+    if MAX_TEXT < text.len() {
+        return None;
+    }
+    let (reading, last) = scan(text, variables)?;
+    match reading.finish(last, variables) {
+        Some(value) => Some(value),
+        None => reading.finish_product(last, variables),
+    }
+}
+
+/// Reads an expression sign by sign, up to its last operand.
+fn scan<'a>(text: &'a [u8], known: &Variables) -> Option<(Reading, &'a [u8])>
+    ensures { option_map (λ e. (state e.0, e.1.now)) result ≡ run (lookup known.now) start [] text.now }
 {
     let mut reading = Reading::new();
     let mut begin = 0;
@@ -43,8 +59,8 @@ fn scan(text: &[u8], variables: &Variables) -> Option<Dec>
         let Some(sign) = sign_of(*byte) else {
             continue;
         };
-        reading.step(&text[begin..i], sign, variables)?;
+        reading.step(&text[begin..i], sign, known)?;
         begin = i + 1;
     }
-    reading.finish(&text[begin..], variables)
+    Some((reading, &text[begin..]))
 }

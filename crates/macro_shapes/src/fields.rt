@@ -4,12 +4,12 @@ ghost use Rattle.std.specs.Prelude.{◌≡◌, ◌≤◌, ◌↔◌, ◌++◌, �
 ghost use Rattle.std.specs.Option.{option_copied};
 ghost use Rattle.macro_shapes.specs.Values.{Environment, lookup, with_value};
 ghost use Rattle.macro_shapes.specs.Pieces.{IsMacro};
-ghost use Rattle.macro_shapes.specs.Inner.Parts.{split_by_if};
-ghost use Rattle.macro_shapes.specs.Inner.Pieces.{value_of, all_values, piece_fields, on_piece, fields_from};
+ghost use Rattle.macro_shapes.specs.Inner.Bytes.{split_by_if};
+ghost use Rattle.macro_shapes.specs.Inner.Pieces.{value_of, field_value, all_values, piece_fields, on_piece, fields_from};
 ghost use Rattle.macro_shapes.specs.declared.fields.Fields.{Fields};
 
-use crate::expression::read;
-use crate::piece::{Code, code_of, definition, is_comment, split_first};
+use crate::expression::{read, read_diameter};
+use crate::piece::{Code, code_of, definition, is_comment, is_diameter, split_first};
 use crate::variables::Variables;
 use grid_units::{Dec, Text};
 use std::alloc::{AllocError, Global};
@@ -73,19 +73,31 @@ impl Macro {
     }
 }
 
-/// The values of expressions that are divided by commas. `None` where one has no value.
+/// The value of the field of this number.
+fn field_value(code: Code, number: usize, text: &[u8], variables: &Variables) -> Option<Dec>
+    ensures { result ≡ field_value (lookup variables.now) code number text.now }
+{
+    if is_diameter(code, number) {
+        read_diameter(text, variables)
+    } else {
+        read(text, variables)
+    }
+}
+
+/// The values of fields that are divided by commas. `None` where one has no value.
 fn read_values(
     alloc: Global,
+    code: Code,
     text: Option<&[u8]>,
     variables: &Variables,
 ) -> Result<Option<Values>, AllocError>
-    ensures { IfOk result (λ answer. answer ≡ all_values (lookup variables.now) (split_by_if 44 (option_copied text.entry))) }
+    ensures { IfOk result (λ answer. answer ≡ all_values (lookup variables.now) code 0 (split_by_if 44 (option_copied text.entry))) }
 {
     let mut values = Vec::new(alloc);
     let mut left = text;
     while let Some(rest) = left {
         let (field, more) = split_first(b',', rest);
-        let Some(value) = read(field, variables) else {
+        let Some(value) = field_value(code, values.len(), field, variables) else {
             return Ok(None);
         };
         values.push(value)?;
@@ -107,7 +119,7 @@ fn read_primitive(
     let Some(code) = code_of(code) else {
         return Ok(None);
     };
-    match read_values(alloc, rest, variables)? {
+    match read_values(alloc, code, rest, variables)? {
         Some(values) => Ok(Some(Fields { code, values })),
         None => Ok(None),
     }

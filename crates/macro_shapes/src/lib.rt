@@ -6,10 +6,10 @@
 mod arithmetic;
 mod expression;
 mod fields;
-mod frames;
 pub mod laws;
 mod outline;
 mod piece;
+mod polygon;
 mod primitive;
 mod reading;
 mod shape;

@@ -1,6 +1,6 @@
 //! Outlines of a macro: the polygons that closed runs of points go round.
 
-ghost use Rattle.std.specs.Prelude.{◌≡◌, ◌<◌, ◌∷◌, IfOk, None, if◌then◌else◌, nat_lt, option_map, reverse, length, zip};
+ghost use Rattle.std.specs.Prelude.{◌≡◌, ◌<◌, ◌∷◌, IfOk, None, if◌then◌else◌, nat_lt, option_map, length, zip};
 ghost use Rattle.pad_shapes.specs.Rounded.{max_corners};
 ghost use Rattle.macro_shapes.specs.Primitives.{is_same, is_count, run_of, is_closed, point_at, moves, stops, are_different, rounded_of, polygon_of, either_way, outline_of, outline_at, primitive_by_code, polygon_round};
 ghost use Rattle.macro_shapes.specs.Inner.Steps.{other_point};
@@ -172,22 +172,9 @@ fn polygon_of_different(alloc: Global, corners: &[Point]) -> Result<Option<Round
     ensures { IfOk result (λ answer. answer ≡ (if are_different corners.now then polygon_of corners.now else None)) }
 {
     match polygon_of(alloc, corners)? {
-        Some(found) => {
-            if are_different(corners) {
-                Ok(Some(found))
-            } else {
-                Ok(None)
-            }
-        }
-        None => Ok(None),
+        Some(found) if are_different(corners) => Ok(Some(found)),
+        _ => Ok(None),
     }
-}
-
-/// The points of a run from its last one back.
-fn reversed(alloc: Global, run: &[Point]) -> Result<Vec<Point>, AllocError>
-    ensures { IfOk result (λ found. found.items ≡ reverse run.now) }
-{
-    run.iter().rev().copied().collect(alloc)
 }
 
 /// The polygon that different corners go round once, in this order or the other way.
@@ -200,7 +187,7 @@ fn either_way(alloc: Global, corners: &[Point]) -> Result<Option<Rounded>, Alloc
     match polygon_of(alloc, corners)? {
         Some(found) => Ok(Some(found)),
         None => {
-            let back = reversed(alloc, corners)?;
+            let back: Vec<Point> = corners.iter().rev().copied().collect(alloc)?;
             polygon_of(alloc, &back)
         }
     }

@@ -2,9 +2,8 @@
 
 ghost use Rattle.std.specs.Prelude.{◌≡◌, ◌≤◌, ◌<◌, ◌∷◌, length, option_map, IfSome, position, ◌==◌};
 ghost use Rattle.std.specs.Option.{option_copied};
-ghost use Rattle.macro_shapes.specs.Pieces.{split_by, code_of};
-ghost use Rattle.macro_shapes.specs.Inner.Parts.{split_by_if};
-ghost use Rattle.macro_shapes.specs.Inner.Bytes.{goes_on, number_and_text, starts_comment, starts_definition, variable_number};
+ghost use Rattle.macro_shapes.specs.Pieces.{split_by, code_of, is_diameter};
+ghost use Rattle.macro_shapes.specs.Inner.Bytes.{split_by_if, goes_on, number_and_text, starts_comment, starts_definition, variable_number};
 
 use grid_units::numbers::{capped_value, digit_run_len, is_digits, is_number_char};
 
@@ -19,6 +18,8 @@ pub enum Code {
     CentreLine,
     /// 4: an area by the points of its outline.
     Outline,
+    /// 5: a regular polygon.
+    Polygon,
 }
 
 /// Whether a field goes on.
@@ -92,16 +93,24 @@ pub(crate) fn definition(piece: &[u8]) -> Option<(usize, &[u8])>
 pub(crate) fn code_of(text: &[u8]) -> Option<Code>
     ensures { result ≡ code_of text.now }
 {
-    if text == b"1".as_slice() {
-        Some(Code::Circle)
-    } else if text == b"20".as_slice() {
-        Some(Code::VectorLine)
-    } else if text == b"21".as_slice() {
-        Some(Code::CentreLine)
-    } else if text == b"4".as_slice() {
-        Some(Code::Outline)
-    } else {
-        None
+    match text {
+        b"1" => Some(Code::Circle),
+        b"20" => Some(Code::VectorLine),
+        b"21" => Some(Code::CentreLine),
+        b"4" => Some(Code::Outline),
+        b"5" => Some(Code::Polygon),
+        _ => None,
+    }
+}
+
+/// Whether the field of this number, from 0, is a diameter.
+pub(crate) fn is_diameter(code: Code, number: usize) -> bool
+    ensures { result ≡ is_diameter code number }
+{
+    match code {
+        Code::Circle => number == 1,
+        Code::Polygon => number == 4,
+        _ => false,
     }
 }
 
@@ -113,7 +122,7 @@ fn separator_at(at: u8, text: &[u8]) -> Option<usize>
 }
 
 /// The first part of a text, and what follows the byte that divides it.
-pub(crate) fn split_first(at: u8, text: &[u8]) -> (&[u8], Option<&[u8]>)
+pub(super) fn split_first(at: u8, text: &[u8]) -> (&[u8], Option<&[u8]>)
     ensures parts { split_by at text.now ≡ result.0.now ∷ split_by_if at (option_copied result.1) }
     ensures shorter { IfSome result.1 (λ rest. length rest.now < length text.now) }
 {

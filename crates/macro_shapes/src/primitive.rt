@@ -1,4 +1,4 @@
-//! The primitives of a macro that are judged: circles, vector lines, centre lines and outlines.
+//! The primitives of a macro that are judged: circles, vector lines, centre lines, outlines and regular polygons.
 
 ghost use Rattle.std.specs.Prelude.{◌≡◌, IfOk, pos};
 ghost use Rattle.std.specs.Ordering.{int_eq};
@@ -9,6 +9,7 @@ ghost use Rattle.macro_shapes.specs.declared.piece.Code.TheVariants as code;
 use crate::fields::Fields;
 use crate::outline::outline;
 use crate::piece::Code;
+use crate::polygon::polygon;
 use grid_units::{Dec, Point, Unit};
 use pad_shapes::Rounded;
 use std::alloc::{AllocError, Global};
@@ -36,6 +37,8 @@ pub enum Primitive {
     },
     /// The area of a convex polygon. The radius of the corners says nothing.
     Outline(Rounded),
+    /// A regular polygon about the point of the flash, turned by any angle, by the diameter of the disc inside of it, rounded down.
+    Polygon(u64),
 }
 
 /// The primitives of a macro. Contracts see the list of them.
@@ -77,33 +80,15 @@ fn quarter_turns(rotation: Dec) -> Option<u8>
     Some(if units < 0 { (4 - turns) % 4 } else { turns })
 }
 
-/// The x in pm of a point that is turned by so many quarters about the point of the flash.
-fn turned_x(turns: u8, point: Point) -> i64
-    ensures { result ≡ turned_x turns point }
+/// The x and the y in pm of a point that is turned by so many quarters about the point of the flash.
+fn turned_coordinates(turns: u8, point: Point) -> (i64, i64)
+    ensures { result ≡ (turned_x turns point, turned_y turns point) }
 {
-    if turns == 0 {
-        point.x()
-    } else if turns == 1 {
-        -point.y()
-    } else if turns == 2 {
-        -point.x()
-    } else {
-        point.y()
-    }
-}
-
-/// The y in pm of a point that is turned by so many quarters about the point of the flash.
-fn turned_y(turns: u8, point: Point) -> i64
-    ensures { result ≡ turned_y turns point }
-{
-    if turns == 0 {
-        point.y()
-    } else if turns == 1 {
-        point.x()
-    } else if turns == 2 {
-        -point.y()
-    } else {
-        -point.x()
+    match turns {
+        0 => (point.x(), point.y()),
+        1 => (-point.y(), point.x()),
+        2 => (-point.x(), -point.y()),
+        _ => (point.y(), -point.x()),
     }
 }
 
@@ -118,8 +103,7 @@ pub(crate) fn grid_point(x: i64, y: i64) -> Option<Point>
 fn turned(turns: u8, point: Point) -> Option<Point>
     ensures { result ≡ grid_point (turned_x turns point) (turned_y turns point) }
 {
-    let x = turned_x(turns, point);
-    let y = turned_y(turns, point);
+    let (x, y) = turned_coordinates(turns, point);
     grid_point(x, y)
 }
 
@@ -131,7 +115,7 @@ fn length_of(unit: Unit, value: Dec) -> Option<i64>
 }
 
 /// A value as a size in pm, or `None` below 0 or beyond 10 m.
-fn size_of(unit: Unit, value: Dec) -> Option<u64>
+pub(crate) fn size_of(unit: Unit, value: Dec) -> Option<u64>
     ensures { result ≡ size_of unit value }
 {
     if value.units() < 0 {
@@ -169,7 +153,7 @@ pub(crate) fn placed(unit: Unit, turns: u8, x: Dec, y: Dec) -> Option<Point>
 }
 
 /// Whether the exposure is on.
-fn is_dark(exposure: Dec) -> bool
+pub(crate) fn is_dark(exposure: Dec) -> bool
     ensures { result ≡ int_eq exposure (pos 100000000) }
 {
     exposure.units() == 100_000_000
@@ -200,13 +184,7 @@ fn circle(unit: Unit, values: &[Dec]) -> Option<Primitive>
     ensures { result ≡ primitive_by_code code.Circle unit values.now }
 {
     match values {
-        [exposure, diameter, x, y] => {
-            if is_dark(*exposure) {
-                circle_at(unit, 0, *diameter, *x, *y)
-            } else {
-                None
-            }
-        }
+        [exposure, diameter, x, y] if is_dark(*exposure) => circle_at(unit, 0, *diameter, *x, *y),
         [exposure, diameter, x, y, rotation] => {
             let turns = dark_turns(*exposure, *rotation)?;
             circle_at(unit, turns, *diameter, *x, *y)
@@ -250,18 +228,15 @@ fn vector_line(unit: Unit, values: &[Dec]) -> Option<Primitive>
 fn with_sides(turns: u8, centre: Point, width: u64, height: u64) -> Primitive
     ensures { result ≡ with_sides turns centre width height }
 {
-    if turns % 2 == 0 {
-        Primitive::CentreLine {
-            centre,
-            width,
-            height,
-        }
+    let (width, height) = if turns % 2 == 0 {
+        (width, height)
     } else {
-        Primitive::CentreLine {
-            centre,
-            width: height,
-            height: width,
-        }
+        (height, width)
+    };
+    Primitive::CentreLine {
+        centre,
+        width,
+        height,
     }
 }
 
@@ -302,12 +277,14 @@ fn coded(
         Code::VectorLine => Ok(vector_line(unit, values)),
         Code::CentreLine => Ok(centre_line(unit, values)),
         Code::Outline => outline(alloc, unit, values),
+        Code::Polygon => Ok(polygon(unit, values)),
     }
 }
 
 /// The primitives that fields spell in lengths of this unit, or `None` where one of them is not judged: where it is not dark, is
 /// turned by another angle than quarters, has a coordinate or a size beyond 10 m, another number of fields than its code asks
-/// for, or an outline that is not convex (Gerber format, Aperture macro AM).
+/// for, or is an outline that is not convex, or a regular polygon about another point than that of the flash or of another number of
+/// corners than 3 to 12, which any angle may turn (Gerber format, Aperture macro AM).
 ///
 /// # Errors
 ///

@@ -2,20 +2,27 @@
 
 ghost use Rattle.std.specs.Prelude.{◌≡◌, MatchOption, None, Some};
 ghost use Rattle.macro_shapes.specs.Values.{lookup};
-ghost use Rattle.macro_shapes.specs.Inner.Reading.{start, factor_of, term_of, sum_of, is_before_factor, is_leading, open_bracket, close_bracket, before_sign, after_addition, multiplied_on, step, final_value};
-ghost use Rattle.macro_shapes.specs.Inner.State.{state};
+ghost use Rattle.macro_shapes.specs.Inner.Reading.{start, state, factor_of, term_of, sum_of, is_before_factor, is_leading, open_bracket, close_bracket, before_sign, after_addition, multiplied_on, step, final_value, final_product};
 
-use crate::arithmetic::{added, multiplied};
-use crate::frames::{Frame, Frames};
+use crate::arithmetic::{added, multiplied, product_below};
 use crate::sign::{Addition, Multiplication, Sign};
 use crate::variables::Variables;
+use arrayvec::ArrayVec;
 use grid_units::Dec;
+
+/// What stands before an operand, back to the bracket that opened last: the terms and the sign after them, and the factors
+/// of its own term and the sign after these.
+#[derive(Clone, Copy, Default)]
+pub(crate) struct Frame {
+    pub(crate) before_term: Option<(Dec, Addition)>,
+    pub(crate) before_factor: Option<(Dec, Multiplication)>,
+}
 
 /// What was read of an expression up to the operand at hand.
 #[derive(Drop)]
 pub(crate) struct Reading {
-    /// What stands before each bracket that is open.
-    pub(crate) outer: Frames,
+    /// What stands before each bracket that is open, the innermost last.
+    pub(crate) outer: ArrayVec<Frame, 16>,
     /// What stands before the operand.
     pub(crate) frame: Frame,
     /// The value of the brackets that closed just here.
@@ -28,7 +35,7 @@ impl Reading {
         ensures { state result ≡ start }
     {
         Reading {
-            outer: Frames::new(),
+            outer: ArrayVec::new(),
             frame: Frame::default(),
             closed: None,
         }
@@ -87,11 +94,14 @@ impl Reading {
     fn open(&mut self, operand: &[u8]) -> Option<()>
         ensures { MatchOption result (open_bracket (state self.old) operand.now ≡ None) (λ _. open_bracket (state self.old) operand.now ≡ Some (state self.new)) }
     {
-        if !self.is_before_factor(operand) || 16 <= self.outer.depth() {
+        if !self.is_before_factor(operand) || 16 <= self.outer.len() {
             return None;
         }
         self.outer.push(self.frame);
-        self.frame = Frame::default();
+        self.frame = Frame {
+            before_term: None,
+            before_factor: None,
+        };
         Some(())
     }
 
@@ -171,10 +181,25 @@ impl Reading {
     pub(crate) fn finish(&self, operand: &[u8], variables: &Variables) -> Option<Dec>
         ensures { result ≡ final_value (lookup variables.now) (state self.now) operand.now }
     {
-        if self.outer.depth() == 0 {
+        if self.outer.len() == 0 {
             self.sum(operand, variables)
         } else {
             None
+        }
+    }
+
+    /// The product that the expression which ends with this operand is as a whole, rounded down. `None` where it is another one.
+    pub(crate) fn finish_product(&self, operand: &[u8], variables: &Variables) -> Option<Dec>
+        ensures { result ≡ final_product (lookup variables.now) (state self.now) operand.now }
+    {
+        if self.outer.len() != 0 || self.frame.before_term.is_some() {
+            return None;
+        }
+        let factor = self.factor(operand, variables)?;
+        match self.frame.before_factor {
+            Some((value, Multiplication::Times)) => product_below(value, factor),
+            Some((_, Multiplication::Over)) => None,
+            None => None,
         }
     }
 }

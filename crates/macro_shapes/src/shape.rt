@@ -1,10 +1,9 @@
 //! The shape of a macro: a rounded polygon that is inside of its primitives.
 
 ghost use Rattle.std.specs.Prelude.{◌≡◌, IfOk, option_and_then, unwrap_or};
-ghost use Rattle.std.specs.Int.{abs_diff};
 ghost use Rattle.macro_shapes.specs.Primitives.{rounded_of};
-ghost use Rattle.macro_shapes.specs.Shapes.{diameter_at, width_along, disc_at, line_along, border, rectangle_of, rectangle_about, rectangle_along, line_shape, with_border, crossing_sides, cross_border, with_arms, cross_shape, centre_shape, do_cross, shape_from, shape_of};
-ghost use Rattle.macro_shapes.specs.Inner.Steps.{other_end, second_crossing};
+ghost use Rattle.macro_shapes.specs.Shapes.{diameter_at, width_along, disc_at, line_along, border, rectangle_of, rectangle_about, rectangle_along, segment, line_shape, with_border, crossing_sides, cross_border, with_arms, cross_shape, centre_shape, do_cross, shape_from, shape_of};
+ghost use Rattle.macro_shapes.specs.Inner.Steps.{second_crossing};
 ghost use Rattle.macro_shapes.specs.Inner.Borders.{greatest, least, disc_in_turn, line_in_turn, discs_in_turn, border_in_turn};
 
 use crate::outline::{is_same, rounded_of};
@@ -21,16 +20,8 @@ fn diameter_at(point: Point, primitive: &Primitive) -> Option<u64>
     ensures { result ≡ diameter_at point primitive.now }
 {
     match primitive {
-        Primitive::Circle { centre, diameter } => {
-            if is_same(*centre, point) {
-                Some(*diameter)
-            } else {
-                None
-            }
-        }
-        Primitive::VectorLine { .. } => None,
-        Primitive::CentreLine { .. } => None,
-        Primitive::Outline(_) => None,
+        Primitive::Circle { centre, diameter } if is_same(*centre, point) => Some(*diameter),
+        _ => None,
     }
 }
 
@@ -44,9 +35,7 @@ fn width_along(start: Point, end: Point, primitive: &Primitive) -> Option<u64>
                 || (is_same(*from, end) && is_same(*to, start));
             if is_along { Some(*width) } else { None }
         }
-        Primitive::Circle { .. } => None,
-        Primitive::CentreLine { .. } => None,
-        Primitive::Outline(_) => None,
+        _ => None,
     }
 }
 
@@ -198,7 +187,7 @@ fn rectangle_along(
 
 /// The ends of a line after the first one: none where they are equal.
 fn other_end(alloc: Global, a: Point, b: Point) -> Result<Vec<Point>, AllocError>
-    ensures { IfOk result (λ others. others.items ≡ other_end a b) }
+    ensures { IfOk result (λ others. others.items ≡ (segment a b).others) }
 {
     let mut others = Vec::new(alloc);
     if !is_same(a, b) {
@@ -221,16 +210,6 @@ fn line_shape(
     match border(primitives, from, &others) {
         Some(size) => Ok(rounded_of(from, others, size)),
         None => rectangle_along(alloc, from, to, width),
-    }
-}
-
-/// A size, or 0.
-fn or_0(size: Option<u64>) -> u64
-    ensures { result ≡ unwrap_or size 0 }
-{
-    match size {
-        Some(size) => size,
-        None => 0,
     }
 }
 
@@ -262,7 +241,7 @@ fn outline_shape(
 ) -> Result<Option<Rounded>, AllocError>
     ensures { IfOk result (λ answer. answer ≡ with_border corners.now (unwrap_or (border primitives.now corners.now) 0)) }
 {
-    let size = or_0(border(primitives, corners.first(), corners.others()));
+    let size = border(primitives, corners.first(), corners.others()).unwrap_or(0);
     with_border(alloc, corners, size)
 }
 
@@ -283,16 +262,10 @@ fn crossing(centre: Point, width: u64, height: u64, primitive: &Primitive) -> Op
             centre: other,
             width: other_width,
             height: other_height,
-        } => {
-            if is_same(*other, centre) && do_cross(width, height, *other_width, *other_height) {
-                Some((*other_width, *other_height))
-            } else {
-                None
-            }
+        } if is_same(*other, centre) && do_cross(width, height, *other_width, *other_height) => {
+            Some((*other_width, *other_height))
         }
-        Primitive::Circle { .. } => None,
-        Primitive::VectorLine { .. } => None,
-        Primitive::Outline(_) => None,
+        _ => None,
     }
 }
 
@@ -306,17 +279,9 @@ fn second_crossing(
     ensures { result ≡ second_crossing centre width height primitives.now }
 {
     match primitives {
-        [] => None,
-        [_] => None,
         [_, second, ..] => crossing(centre, width, height, second),
+        _ => None,
     }
-}
-
-/// The difference of two sizes.
-fn difference(a: u64, b: u64) -> u64
-    ensures { result ≡ abs_diff a b }
-{
-    a.abs_diff(b)
 }
 
 /// The least of the circles at the corners of the common part of two rectangles and of the differences of their widths and
@@ -362,9 +327,9 @@ fn cross_shape(
     let Some(common) = rectangle_about(alloc, centre, narrow, low)? else {
         return Ok(None);
     };
-    let widths = difference(width, other_width);
-    let heights = difference(height, other_height);
-    let size = or_0(cross_border(primitives, &common, widths, heights));
+    let widths = width.abs_diff(other_width);
+    let heights = height.abs_diff(other_height);
+    let size = cross_border(primitives, &common, widths, heights).unwrap_or(0);
     with_arms(alloc, &common, size)
 }
 
@@ -421,6 +386,10 @@ fn shape_from(
             height,
         } => centre_shape(alloc, primitives, *centre, *width, *height),
         Primitive::Outline(corners) => outline_shape(alloc, primitives, corners),
+        Primitive::Polygon(diameter) => match grid_point(0, 0) {
+            Some(centre) => Ok(rounded_of(centre, Vec::new(alloc), *diameter)),
+            None => Ok(None),
+        },
     }
 }
 
@@ -428,7 +397,8 @@ fn shape_from(
 /// line with circles at both ends a line with round ends, a vector line along an axis or a centre line a rectangle, and an
 /// outline a convex polygon: rounded by half of the least of the circles at its corners and of the vector lines along its edges,
 /// where none of them lacks. A centre line that a second one about the same centre crosses is their common part, rounded by half
-/// of the least of the circles at its corners, the difference of the widths and that of the heights, where this is above 0.
+/// of the least of the circles at its corners, the difference of the widths and that of the heights, where this is above 0. A regular
+/// polygon is the disc inside of it.
 ///
 /// # Errors
 ///

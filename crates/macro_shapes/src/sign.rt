@@ -31,21 +31,14 @@ pub enum Sign {
 pub(crate) fn sign_of(byte: u8) -> Option<Sign>
     ensures { result ≡ sign_of byte }
 {
-    if byte == b'(' {
-        Some(Sign::Open)
-    } else if byte == b')' {
-        Some(Sign::Close)
-    } else if byte == b'+' {
-        Some(Sign::Add(Addition::Plus))
-    } else if byte == b'-' {
-        Some(Sign::Add(Addition::Minus))
-    } else if byte == b'x' {
-        Some(Sign::Multiply(Multiplication::Times))
-    } else if byte == b'X' {
-        Some(Sign::Multiply(Multiplication::Times))
-    } else if byte == b'/' {
-        Some(Sign::Multiply(Multiplication::Over))
-    } else {
-        None
+    match byte {
+        b'(' => Some(Sign::Open),
+        b')' => Some(Sign::Close),
+        b'+' => Some(Sign::Add(Addition::Plus)),
+        b'-' => Some(Sign::Add(Addition::Minus)),
+        b'x' => Some(Sign::Multiply(Multiplication::Times)),
+        b'X' => Some(Sign::Multiply(Multiplication::Times)),
+        b'/' => Some(Sign::Multiply(Multiplication::Over)),
+        _ => None,
     }
 }

@@ -49,7 +49,7 @@ const MACROS: [(&[&str], Option<&str>, Option<(usize, i64)>); 14] = [
 ];
 
 /// The texts of pieces.
-fn texts(alloc: Global, pieces: &[&str]) -> Result<Vec<Text>, AllocError> {
+pub(crate) fn texts(alloc: Global, pieces: &[&str]) -> Result<Vec<Text>, AllocError> {
     let mut texts = Vec::new(alloc);
     for piece in pieces {
         texts.push(Text::from_slice(alloc, piece.as_bytes())?)?;

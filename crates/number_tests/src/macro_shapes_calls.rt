@@ -1,6 +1,7 @@
 //! The shapes of macros: what they cover, and the macros that are not judged.
 
-use grid_units::{Point, Text, Unit};
+use crate::macro_pieces_calls::texts;
+use grid_units::{Point, Unit};
 use macro_shapes::{macro_shape, read_macro, read_primitives};
 use pad_shapes::{PadShape, Rounded};
 use std::alloc::{AllocError, Global};
@@ -91,91 +92,37 @@ const UPRIGHT: Option<&str> = Some("2.0X0.65X90.0");
 /// The parameters of that rectangle as it lies.
 const LEVEL: Option<&str> = Some("2.0X0.65X0.0");
 
-/// Two rectangles that cross, and circles of 0.4 mm at the corners of their common part.
+/// Two rectangles, the second maybe beside the first one's centre, and circles at the corners of the common part of two that cross.
 const CROSS: &[&str] = &[
-    "21,1,1.0,0.6,0,0,0",
-    "21,1,0.6,1.0,0,0,0",
+    "21,1,$1,$2,0,0,0",
+    "21,1,$3,$4,$5,0,0",
     "1,1,0.4,-0.3,-0.3",
     "1,1,0.4,0.3,-0.3",
-    "1,1,0.4,0.3,0.3",
+    "1,1,$6,0.3,$7",
     "1,1,0.4,-0.3,0.3",
 ];
 
-/// That cross with the tall rectangle first.
-const TALL_FIRST: &[&str] = &[
-    "21,1,0.6,1.0,0,0,0",
-    "21,1,1.0,0.6,0,0,0",
-    "1,1,0.4,-0.3,-0.3",
-    "1,1,0.4,0.3,-0.3",
-    "1,1,0.4,0.3,0.3",
-    "1,1,0.4,-0.3,0.3",
-];
+/// The parameters of two rectangles that cross, and of the same with the tall one first.
+const WIDE_FIRST: Option<&str> = Some("1.0X0.6X0.6X1.0X0X0.4X0.3");
 
-/// That cross with one circle beside its corner.
-const CIRCLE_BESIDE: &[&str] = &[
-    "21,1,1.0,0.6,0,0,0",
-    "21,1,0.6,1.0,0,0,0",
-    "1,1,0.4,-0.3,-0.3",
-    "1,1,0.4,0.3,-0.3",
-    "1,1,0.4,0.3,0.31",
-    "1,1,0.4,-0.3,0.3",
-];
+const TALL_FIRST: Option<&str> = Some("0.6X1.0X1.0X0.6X0X0.4X0.3");
 
-/// A cross whose least circle is 0.2 mm, one whose heights differ by 0.2 mm, and one whose widths do.
-const SMALL_CIRCLE: &[&str] = &[
-    "21,1,1.0,0.6,0,0,0",
-    "21,1,0.6,1.0,0,0,0",
-    "1,1,0.4,-0.3,-0.3",
-    "1,1,0.4,0.3,-0.3",
-    "1,1,0.2,0.3,0.3",
-    "1,1,0.4,-0.3,0.3",
-];
+/// Those of a cross with one circle beside its corner, one whose least circle is 0.2 mm, one whose heights differ by 0.2 mm, and one
+/// whose widths do.
+const CIRCLE_BESIDE: Option<&str> = Some("1.0X0.6X0.6X1.0X0X0.4X0.31");
 
-const SHORT_ARM: &[&str] = &[
-    "21,1,1.0,0.6,0,0,0",
-    "21,1,0.6,0.8,0,0,0",
-    "1,1,0.4,-0.3,-0.3",
-    "1,1,0.4,0.3,-0.3",
-    "1,1,0.4,0.3,0.3",
-    "1,1,0.4,-0.3,0.3",
-];
+const SMALL_CIRCLE: Option<&str> = Some("1.0X0.6X0.6X1.0X0X0.2X0.3");
 
-const NARROW_ARM: &[&str] = &[
-    "21,1,0.8,0.6,0,0,0",
-    "21,1,0.6,1.0,0,0,0",
-    "1,1,0.4,-0.3,-0.3",
-    "1,1,0.4,0.3,-0.3",
-    "1,1,0.4,0.3,0.3",
-    "1,1,0.4,-0.3,0.3",
-];
+const SHORT_ARM: Option<&str> = Some("1.0X0.6X0.6X0.8X0X0.4X0.3");
 
-/// Two rectangles of equal height, one about another centre, and one that holds the other, with circles at the corners.
-const EQUAL_HEIGHTS: &[&str] = &[
-    "21,1,1.0,0.6,0,0,0",
-    "21,1,0.6,0.6,0,0,0",
-    "1,1,0.4,-0.3,-0.3",
-    "1,1,0.4,0.3,-0.3",
-    "1,1,0.4,0.3,0.3",
-    "1,1,0.4,-0.3,0.3",
-];
+const NARROW_ARM: Option<&str> = Some("0.8X0.6X0.6X1.0X0X0.4X0.3");
 
-const OTHER_CENTRE: &[&str] = &[
-    "21,1,1.0,0.6,0,0,0",
-    "21,1,0.6,1.0,0.01,0,0",
-    "1,1,0.4,-0.3,-0.3",
-    "1,1,0.4,0.3,-0.3",
-    "1,1,0.4,0.3,0.3",
-    "1,1,0.4,-0.3,0.3",
-];
+/// Those of two rectangles of equal height, of one about another centre, and of one that holds the other.
+const EQUAL_HEIGHTS: Option<&str> = Some("1.0X0.6X0.6X0.6X0X0.4X0.3");
 
-const HELD: &[&str] = &[
-    "21,1,1.0,1.0,0,0,0",
-    "21,1,0.6,0.6,0,0,0",
-    "1,1,0.4,-0.3,-0.3",
-    "1,1,0.4,0.3,-0.3",
-    "1,1,0.4,0.3,0.3",
-    "1,1,0.4,-0.3,0.3",
-];
+const OTHER_CENTRE: Option<&str> = Some("1.0X0.6X0.6X1.0X0.01X0.4X0.3");
+
+const HELD: Option<&str> = Some("1.0X1.0X0.6X0.6X0X0.4X0.3");
 
 /// Pieces and the parameters of an aperture, in millimetres, a place in nm, a reach in pm, and whether a hole there is covered;
 /// `None` where the macro is not judged.
@@ -300,40 +247,76 @@ const HOLES: [(&[&str], Option<&str>, i64, i64, i64, Option<bool>); 74] = [
     (TURNED, Some("0X0.65X0.0"), 0, 0, 325_000_000, None),
     (&["1,1,99999.0,0,0"], None, 0, 0, 325_000_000, None),
     (&["1,1,10000.0,0,0"], None, 0, 0, 325_000_000, Some(true)),
-    (CROSS, None, 0, 0, 500_000_000, Some(true)),
-    (CROSS, None, 0, 0, 500_001_000, Some(false)),
-    (CROSS, None, 300_000, 300_000, 200_000_000, Some(true)),
-    (CROSS, None, 300_000, 300_000, 200_001_000, Some(false)),
-    (TALL_FIRST, None, 0, 0, 500_000_000, Some(true)),
-    (TALL_FIRST, None, 0, 0, 500_001_000, Some(false)),
-    (CIRCLE_BESIDE, None, 0, 0, 300_000_000, Some(true)),
-    (CIRCLE_BESIDE, None, 0, 0, 300_001_000, Some(false)),
-    (CIRCLE_BESIDE, None, 200_000, 0, 300_000_000, Some(true)),
-    (CIRCLE_BESIDE, None, 200_001, 0, 300_000_000, Some(false)),
-    (SMALL_CIRCLE, None, 0, 0, 400_000_000, Some(true)),
-    (SMALL_CIRCLE, None, 0, 0, 400_001_000, Some(false)),
-    (SHORT_ARM, None, 0, 0, 400_000_000, Some(true)),
-    (SHORT_ARM, None, 0, 0, 400_001_000, Some(false)),
-    (NARROW_ARM, None, 0, 0, 400_000_000, Some(true)),
-    (NARROW_ARM, None, 0, 0, 400_001_000, Some(false)),
-    (EQUAL_HEIGHTS, None, 200_000, 0, 300_000_000, Some(true)),
-    (EQUAL_HEIGHTS, None, 200_001, 0, 300_000_000, Some(false)),
-    (OTHER_CENTRE, None, 0, 0, 300_000_000, Some(true)),
-    (OTHER_CENTRE, None, 0, 0, 300_001_000, Some(false)),
-    (HELD, None, 0, 0, 500_000_000, Some(true)),
-    (HELD, None, 500_000, 500_000, 0, Some(true)),
-    (HELD, None, 500_001, 500_000, 0, Some(false)),
+    (CROSS, WIDE_FIRST, 0, 0, 500_000_000, Some(true)),
+    (CROSS, WIDE_FIRST, 0, 0, 500_001_000, Some(false)),
+    (CROSS, WIDE_FIRST, 300_000, 300_000, 200_000_000, Some(true)),
+    (
+        CROSS,
+        WIDE_FIRST,
+        300_000,
+        300_000,
+        200_001_000,
+        Some(false),
+    ),
+    (CROSS, TALL_FIRST, 0, 0, 500_000_000, Some(true)),
+    (CROSS, TALL_FIRST, 0, 0, 500_001_000, Some(false)),
+    (CROSS, CIRCLE_BESIDE, 0, 0, 300_000_000, Some(true)),
+    (CROSS, CIRCLE_BESIDE, 0, 0, 300_001_000, Some(false)),
+    (CROSS, CIRCLE_BESIDE, 200_000, 0, 300_000_000, Some(true)),
+    (CROSS, CIRCLE_BESIDE, 200_001, 0, 300_000_000, Some(false)),
+    (CROSS, SMALL_CIRCLE, 0, 0, 400_000_000, Some(true)),
+    (CROSS, SMALL_CIRCLE, 0, 0, 400_001_000, Some(false)),
+    (CROSS, SHORT_ARM, 0, 0, 400_000_000, Some(true)),
+    (CROSS, SHORT_ARM, 0, 0, 400_001_000, Some(false)),
+    (CROSS, NARROW_ARM, 0, 0, 400_000_000, Some(true)),
+    (CROSS, NARROW_ARM, 0, 0, 400_001_000, Some(false)),
+    (CROSS, EQUAL_HEIGHTS, 200_000, 0, 300_000_000, Some(true)),
+    (CROSS, EQUAL_HEIGHTS, 200_001, 0, 300_000_000, Some(false)),
+    (CROSS, OTHER_CENTRE, 0, 0, 300_000_000, Some(true)),
+    (CROSS, OTHER_CENTRE, 0, 0, 300_001_000, Some(false)),
+    (CROSS, HELD, 0, 0, 500_000_000, Some(true)),
+    (CROSS, HELD, 500_000, 500_000, 0, Some(true)),
+    (CROSS, HELD, 500_001, 500_000, 0, Some(false)),
     (&[], None, 0, 0, 325_000_000, None),
 ];
 
-/// The texts of pieces.
-fn texts(alloc: Global, pieces: &[&str]) -> Result<Vec<Text>, AllocError> {
-    let mut texts = Vec::new(alloc);
-    for piece in pieces {
-        texts.push(Text::from_slice(alloc, piece.as_bytes())?)?;
-    }
-    Ok(texts)
-}
+/// Polygons and circles in mm with the parameter 0.0236, and their radii in pm, at metres 1 less than by a cosine rounded up; or `None`.
+const POLYGONS: [(&str, Option<i64>); 34] = [
+    ("5,1,3,0,0,2,0", Some(500_000_000)),
+    ("5,1,4,0,0,9999.99388127,45", Some(3_535_531_742_634)),
+    ("5,1,5,0,0,9999.9982833,0", Some(4_045_084_277_454)),
+    ("5,1,6,0,0,9999.99695453,0", Some(4_330_125_700_194)),
+    ("5,1,7,0,0,2,0", Some(900_968_867)),
+    ("5,1,8,0,0,2,22.5", Some(923_879_532)),
+    ("5,1,9,0,0,2,0", Some(939_692_620)),
+    ("5,1,10,0,0,2,0", Some(951_056_516)),
+    ("5,1,11,0,0,2,0", Some(959_492_973)),
+    ("5,1,12,0,0,10000,-7.5", Some(4_829_629_131_445)),
+    ("5,1,8,0,0,0,0", Some(0)),
+    ("5,1,8,0,0,1.08239X$1,22.5", Some(11_799_974)),
+    ("5,1,8,0,0,$1x1.08239,22.5", Some(11_799_974)),
+    ("5,1,8,0,0,$1/1x1.08239,22.5", Some(11_799_974)),
+    ("5,1,8,0,0,(1.08239X$1),22.5", None),
+    ("5,1,8,0,0,1-1.08239X$1,22.5", None),
+    ("5,1,8,0,0,+1.08239X$1,22.5", None),
+    ("5,1,8,0,0,1.08239X$1X1,22.5", None),
+    ("5,1,8,0,0,(0-1.08239)X$1,0", None),
+    ("5,1,8,0,0,1/3,0", None),
+    ("5,1,8,0,0,2,1/3", None),
+    ("5,1,8,0,0,2", None),
+    ("5,1,8,0,0,2,0,0", None),
+    ("5,0,8,0,0,2,0", None),
+    ("5,1,2,0,0,2,0", None),
+    ("5,1,13,0,0,2,0", None),
+    ("5,1,8.5,0,0,2,0", None),
+    ("5,1,-8,0,0,2,0", None),
+    ("5,1,8,0.00000001,0,2,0", None),
+    ("5,1,8,0,-0.00000001,2,0", None),
+    ("5,1,8,0,0,-2,0", None),
+    ("5,1,8,0,0,10000.00000001,0", None),
+    ("1,1,1.08239X$1,0,0", Some(12_772_200)),
+    ("1,1,1,1.08239X$1,0", None),
+];
 
 /// The shape of a macro in lengths of this unit, where it is judged.
 fn shape(
@@ -379,6 +362,19 @@ fn macros_cover_holes_up_to_equality(rt: HostRuntime) -> Result<(), Fail> {
 }
 
 #[test]
+fn polygons_are_the_discs_inside_of_them(rt: HostRuntime) -> Result<(), Fail> {
+    for &(piece, radius) in &POLYGONS {
+        let disc = shape(rt.alloc(), Unit::Millimetre, &[piece], Some("0.0236"))?;
+        let found = match &disc {
+            Some(disc) => Some(disc.radius()),
+            None => None,
+        };
+        assert!(rt; found == radius, "of {piece}");
+    }
+    Ok(())
+}
+
+#[test]
 fn macros_in_inches_have_whole_lengths(rt: HostRuntime) -> Result<(), Fail> {
     let parameters = Some("0.01X-0.01X0.01X-0.01X-0.01X0.01X-0.01X0.01X0.01X0");
     let found = shape(rt.alloc(), Unit::Inch, ROUNDED, parameters)?;
@@ -388,5 +384,9 @@ fn macros_in_inches_have_whole_lengths(rt: HostRuntime) -> Result<(), Fail> {
             "with {reach}"
         );
     }
+    let octagon = &["5,1,8,0,0,1.08239X$1,22.5"];
+    let found = shape(rt.alloc(), Unit::Inch, octagon, Some("0.0520"))?;
+    assert!(rt; covers(&found, 0, 0, 660_398_657) == Some(true));
+    assert!(rt; covers(&found, 0, 0, 660_398_658) == Some(false));
     Ok(())
 }

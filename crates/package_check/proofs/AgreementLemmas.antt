@@ -1,7 +1,7 @@
 -- The entries of a report and the findings of its check.
 use Rattle.std.proofs.Common.{◌≡◌, ◌+◌, ◌∷◌, ℕ, Bool, true, false, List, [], length, refl, sym, subst, ap, ap₂, ◌∙◌, not}
 use Rattle.std.specs.List.{AllZip, filter}
-use Rattle.std.specs.Prelude.{Result, Ok}
+use Rattle.std.specs.Prelude.{Ok}
 use Rattle.grid_units.specs.Holes.{GridRules}
 use Rattle.ring_rules.specs.declared.finding.Finding.{Finding}
 use Rattle.package_check.specs.Package.{IsReport}
@@ -11,8 +11,10 @@ use Rattle.board_report.specs.BoardReport.{IsGapEntry, IsRingEntry, is_gap}
 use Rattle.package_check.specs.BoardReports.{MatchesGap, MatchesRing, ReportAgreesWithCheck}
 use Rattle.std.proofs.lemmas.List.Filters.{length-filter_both}
 use Rattle.std.proofs.lemmas.Slice.Zip.{AllZip-long}
-use Rattle.grid_units.specs.declared.fault.Fault.{Fault}
-use Rattle.ring_rules.specs.declared.finding.Finding.TheVariants.{Gap, Oblique, Ring}
+use Rattle.std.proofs.lemmas.List.{nil_from_length}
+use Rattle.grid_units.proofs.BoolLemmas.{not_not}
+use Rattle.package_check.proofs.FlashReadingLemmas.{ok_same}
+use Rattle.ring_rules.specs.declared.finding.Finding.TheVariants.{Gap}
 use Rattle.package_check.specs.AlikePackages.{AnswerIsUnique}
 use Rattle.package_check.specs.Reports.{ReportView}
 use Rattle.package_check.specs.Soundness.{PassingIsSound}
@@ -20,43 +22,26 @@ use Rattle.package_check.proofs.BoardsLemmas.{reported_on}
 use Rattle.report.specs.declared.GapLack.{GapLack}
 use Rattle.report.specs.declared.RingLack.{RingLack}
 
-twice : (b : Bool) → b ≡ not (not b)
-twice true = refl
-twice false = refl
-
 -- the findings of rings and of gaps together are as many as all findings
 parted : {T U : Type 0} (R : Finding → T → Type 0) (S : Finding → U → Type 0) (found : List Finding) (rings : List T) (gaps : List U)
     → AllZip R (filter (λ finding. not (is_gap finding)) found) rings → AllZip S (filter is_gap found) gaps → length found ≡ length rings + length gaps
 parted R S found rings gaps are_rings are_gaps =
-    sym (length-filter_both (λ finding. not (is_gap finding)) is_gap (λ finding. twice (is_gap finding)) found)
+    sym (length-filter_both (λ finding. not (is_gap finding)) is_gap (λ finding. sym (not_not (is_gap finding))) found)
     ∙ ap₂ (λ (n k : ℕ). n + k) (sym (AllZip-long R (filter (λ finding. not (is_gap finding)) found) rings are_rings)) (sym (AllZip-long S (filter is_gap found) gaps are_gaps))
 
 -- entries that meet a statement meet a weaker one
 weaker : {T : Type 0} (R S : Finding → T → Type 0) → ((x : Finding) (t : T) → R x t → S x t) → (xs : List Finding) (ts : List T) → AllZip R xs ts → AllZip S xs ts
 weaker R S to [] [] h = tt
-weaker R S to [] (t ∷ ts) h = h
-weaker R S to (x ∷ xs) [] h = h
 weaker R S to (x ∷ xs) (t ∷ ts) h = (to x t h.0, weaker R S to xs ts h.1)
+weaker R S to xs ts h = h
 
 of_ring : (board : BoardView) (required : GridRules) (finding : Finding) (output : RingLack) → IsRingEntry board required finding output → MatchesRing board.files finding output
-of_ring board required (Ring layer hole) output h = (h.layer_is, h.at.stands)
-of_ring board required (Oblique layer hole) output h = (h.layer_is, h.at.stands)
 of_ring board required (Gap first second) output h = h
+of_ring board required finding output h = (h.layer_is, h.at.stands)
 
 of_gap : (board : BoardView) (gap : ℕ) (finding : Finding) (output : GapLack) → IsGapEntry board gap finding output → MatchesGap board.files finding output
-of_gap board gap (Ring layer hole) output h = h
-of_gap board gap (Oblique layer hole) output h = h
 of_gap board gap (Gap first second) output h = (h.first_at.stands, h.second_at.stands)
-
-none : {X : Type 0} (xs : List X) → length xs ≡ 0 → xs ≡ []
-none [] e = refl
-none (x ∷ xs) e = absurd cc
-
-abbrev answered : ReportView → Result ReportView (ℕ × Fault)
-answered report = Ok report
-
-ok_same : {x y : ReportView} → answered x ≡ answered y → x ≡ y
-ok_same e = cc
+of_gap board gap finding output h = h
 
 pub report_agrees_with_check : AnswerIsUnique → PassingIsSound → ReportAgreesWithCheck
 report_agrees_with_check one sound sources required output h =
@@ -72,5 +57,5 @@ report_agrees_with_check one sound sources required output h =
       gaps = λ report k. subst (λ (r : ReportView). AllZip (MatchesGap r.files) (filter is_gap r.findings) output.gaps.items) (sym (same report k))
           (weaker (IsGapEntry board required.gap) (MatchesGap board.files) (of_gap board required.gap) (filter is_gap (board_findings required board)) output.gaps.items h.is.gaps);
       count = λ report k. ap (λ (r : ReportView). length r.findings) (same report k) ∙ count;
-      sound = λ no_rings no_gaps. sound sources required its is (none (board_findings required board) (count ∙ ap₂ (λ (n k : ℕ). n + k) (ap length no_rings) (ap length no_gaps)));
+      sound = λ no_rings no_gaps. sound sources required its is (nil_from_length (board_findings required board) (count ∙ ap₂ (λ (n k : ℕ). n + k) (ap length no_rings) (ap length no_gaps)));
     }

@@ -1,5 +1,5 @@
 -- A package has one answer.
-use Rattle.package_check.proofs.Common.{◌≡◌, ◌<◌, ℕ, zero, suc, List, [], ◌∷◌, Result, Ok, Err, length, take, get_or, arith, refl, ap, sym, subst, ◌∙◌, inl, inr, cases_lt, Fault, Content, FileView, Reads, HaveContents, IsFirstRefused, report_on, ReadingIsUnique, AnswerIsUnique}
+use Rattle.package_check.proofs.Common.{◌≡◌, ◌<◌, ℕ, zero, suc, List, [], ◌∷◌, Result, Ok, Err, length, take, get_or, arith, refl, ap, sym, subst, ◌∙◌, inl, inr, cases_lt, Fault, Content, FileView, Reads, HaveContents, IsFirstRefused, report_on, ReadingIsUnique, AnswerIsUnique, take_all}
 use Rattle.package_check.proofs.ContentIsReading.{reading_of}
 
 abbrev content_of : Content → Result Content Fault → Content
@@ -13,14 +13,13 @@ fault_of d (Err f) = f
 module _ (one : ReadingIsUnique) where
   pub same_contents : (sources : List FileView) (cs ds : List Content) → HaveContents sources cs → HaveContents sources ds → cs ≡ ds
   same_contents [] [] [] h k = refl
-  same_contents [] [] (d ∷ ds) h k = absurd k
-  same_contents [] (c ∷ cs) ds h k = absurd h
-  same_contents (s ∷ ss) [] ds h k = absurd h
+  same_contents [] [] ds h k = absurd k
   same_contents (s ∷ ss) (c ∷ cs) [] h k = absurd k
   same_contents (s ∷ ss) (c ∷ cs) (d ∷ ds) h k =
       let first : c ≡ d = ap (content_of c) (one s (Ok c) (Ok d) (reading_of s c h.0) (reading_of s d k.0)) in
       let rest : cs ≡ ds = same_contents ss cs ds h.1 k.1 in
       ap (λ (x : Content). x ∷ cs) first ∙ ap (λ (xs : List Content). d ∷ xs) rest
+  same_contents sources cs ds h k = absurd h
 
   -- a file before the refused one is read
   read_at : (sources : List FileView) (cs : List Content) (n i : ℕ) (d : FileView) → HaveContents (take n sources) cs → i < n → i < length sources → (c : Content) × Reads (get_or sources i d) (Ok c)
@@ -31,10 +30,7 @@ module _ (one : ReadingIsUnique) where
   read_at (s ∷ ss) (c ∷ cs) (suc n) (suc i) d h before inside = read_at ss cs n i d h.1 (omega arith) (omega arith)
 
   read_in : (sources : List FileView) (cs : List Content) (i : ℕ) (d : FileView) → HaveContents sources cs → i < length sources → (c : Content) × Reads (get_or sources i d) (Ok c)
-  read_in [] cs i d h inside = absurd (omega arith)
-  read_in (s ∷ ss) [] i d h inside = absurd h
-  read_in (s ∷ ss) (c ∷ cs) zero d h inside = (c, reading_of s c h.0)
-  read_in (s ∷ ss) (c ∷ cs) (suc i) d h inside = read_in ss cs i d h.1 (omega arith)
+  read_in sources cs i d h inside = read_at sources cs (length sources) i d (subst (λ (ss : List FileView). HaveContents ss cs) (sym (take_all (length sources) sources (omega arith))) h) inside inside
 
   some_source : (sources : List FileView) (i : ℕ) → i < length sources → FileView
   some_source [] i inside = absurd (omega arith)

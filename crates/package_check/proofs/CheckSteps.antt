@@ -7,9 +7,9 @@ use Rattle.board.specs.declared.FileSum.TheVariants as sum
 use Rattle.package_check.specs.declared.PackageFault.TheVariants as stop
 use Rattle.package_check.specs.declared.contents.Content.TheVariants as content
 use Rattle.package_check.proofs.ContentIsReading.{content_read}
-use Rattle.package_check.proofs.FileKinds.{drill_is_no_copper, mixed_is_no_copper, either}
+use Rattle.package_check.proofs.FileKinds.{either, file_kind}
 use Rattle.package_check.proofs.GrowingLists.{any_name}
-use Rattle.package_check.proofs.TakeSteps.{all_below, all_held, either_kind, held_more, no_kind_past, none_below, none_more, one_more, or_none, or_together, passed_over, stopped_alike}
+use Rattle.package_check.proofs.TakeSteps.{all_held, either_kind, held_more, passed_over, stopped_alike}
 
 -- ---- the holes that the slots count
 
@@ -32,8 +32,7 @@ same_slots before after same = same_holes after before (λ i. ap holes_in_slot (
 
 no_holes_counted : (s : FileSum) → is_drill_sum s ≡ false → hole_count s ≡ 0
 no_holes_counted (sum.Layer pads other contours) is = refl
-no_holes_counted (sum.Drill plated span contradicted round slots) is = absurd (false≢true (sym is))
-no_holes_counted (sum.Mixed span round slots unplated) is = absurd (false≢true (sym is))
+no_holes_counted s is = absurd (false≢true (sym is))
 
 no_holes : (o : Option Judged) → is_drill_in o ≡ false → holes_in_slot o ≡ 0
 no_holes None is = refl
@@ -54,8 +53,7 @@ layer_put before after index one put free layer = same_holes after before (λ i.
 -- the counts of a copper file are those of a layer
 layer_counted : (s : FileView) (c : Content) → is_copper s.role ≡ true → HasContent s c → is_drill_sum (sum_of c) ≡ false
 layer_counted s (content.Layer image) copper has = refl
-layer_counted s (content.Drill plated span holes) copper has = absurd (both_ways (is_copper s.role) (drill_is_no_copper s plated span holes has) copper)
-layer_counted s (content.Mixed span holes) copper has = absurd (both_ways (is_copper s.role) (mixed_is_no_copper s span holes has) copper)
+layer_counted s c copper has = absurd (both_ways (is_copper s.role) (file_kind s c has) copper)
 
 pub layer_left : (rules : GridRules) (holes : List Drilled) (layer : ℕ) (s : FileView) (one : Judged) → is_copper s.role ≡ true → Judges rules holes layer s (Ok one) → is_drill_sum one.sum ≡ false
 layer_left rules holes layer s one copper h = ap is_drill_sum h.2.sum ∙ layer_counted s h.0 copper (content_read s h.0 h.1)
@@ -145,52 +143,11 @@ judged_alike check rules xs ys p size same numbers drills h = record {
 
 -- ---- a check takes the copper files, one after the other
 
--- the same files, by another test
-judged_same : (check : CheckView) (sources : List FileView) (rules : GridRules) (p q : ℕ → Bool) → ((i : ℕ) → p i ≡ q i) → HasJudged check sources rules p → HasJudged check sources rules q
-judged_same check sources rules p q same h = subst (λ (t : ℕ → Bool). HasJudged check sources rules t) (λ j. λ i. same i j) h
-
-judges_then : (a b c : CheckView) (sources : List FileView) (p q r : ℕ → Bool) → ((i : ℕ) → (p i || q i) ≡ r i) → JudgesThose a b sources p → JudgesThose b c sources q → JudgesThose a c sources r
-judges_then a b c sources p q r same first second rules taken h =
-    judged_same c sources rules (λ i. (taken i || p i) || q i) (λ i. taken i || r i) (λ i. or_together (taken i) (p i) (q i) ∙ ap (λ (t : Bool). taken i || t) (same i))
-    (second rules (λ i. taken i || p i) (first rules taken h))
-
-judges_none : (check : CheckView) (sources : List FileView) (p : ℕ → Bool) → ((i : ℕ) → false ≡ p i) → JudgesThose check check sources p
-judges_none check sources p none rules taken h = judged_same check sources rules taken (λ i. taken i || p i) (λ i. sym (or_none (taken i)) ∙ ap (λ (t : Bool). taken i || t) (none i)) h
-
-judges_same : (a b : CheckView) (sources : List FileView) (p q : ℕ → Bool) → ((i : ℕ) → p i ≡ q i) → JudgesThose a b sources p → JudgesThose a b sources q
-judges_same a b sources p q same h rules taken was = judged_same b sources rules (λ i. taken i || p i) (λ i. taken i || q i) (λ i. ap (λ (t : Bool). taken i || t) (same i)) (h rules taken was)
+-- what a check holds of the files of a package
+abbrev pub OfCheck : List FileView → CheckView → GridRules → (ℕ → Bool) → Type 0
+OfCheck sources check rules taken = HasJudged check sources rules taken
 
 module _ {X : Type 0} (seen : X → FileView) (xs : List X) where
-  -- whether the file at an index is copper
-  abbrev of_copper : ℕ → Bool
-  of_copper i = is_kind_at true (map seen xs) i
-
-  source_at : (k : ℕ) (x : X) → k < length xs → x ≡ get_or xs k x → slice_get (map seen xs) k ≡ Some (seen x)
-  source_at k x lt is = slice_get-map seen xs k ∙ ap (option_map seen) (slice_get_read xs (length xs) k x refl lt is)
-
-  -- none so far
-  pub copper_none : (a : CheckView) → JudgesThose a a (map seen xs) (λ i. ltb i 0 && of_copper i)
-  copper_none a = judges_none a (map seen xs) (λ i. ltb i 0 && of_copper i) (none_below of_copper)
-
-  -- and the next, which is copper
-  pub copper_taken : (a b c : CheckView) (k layer : ℕ) (x : X) (s : FileView) → k < length xs → x ≡ get_or xs k x → is_copper (seen x).role ≡ true → s ≡ seen x → layer ≡ layer_number (map seen xs) k
-      → JudgesThose a b (map seen xs) (λ i. ltb i k && of_copper i) → TakesCopper b c k layer s → JudgesThose a c (map seen xs) (λ i. ltb i (k + 1) && of_copper i)
-  copper_taken a b c k layer x s lt is copper same number so_far takes =
-      let at = source_at k x lt is in
-      judges_then a b c (map seen xs) (λ i. ltb i k && of_copper i) (λ i. eqb i k) (λ i. ltb i (k + 1) && of_copper i) (one_more of_copper k (ap (is_kind_of true) at ∙ copper)) so_far
-      (takes (map seen xs) (at ∙ ap (λ (y : FileView). Some y) (sym same)) number)
-
-  -- or is not copper
-  pub copper_left : (a b : CheckView) (k : ℕ) (x : X) → k < length xs → x ≡ get_or xs k x → is_copper (seen x).role ≡ false
-      → JudgesThose a b (map seen xs) (λ i. ltb i k && of_copper i) → JudgesThose a b (map seen xs) (λ i. ltb i (k + 1) && of_copper i)
-  copper_left a b k x lt is drill so_far =
-      judges_same a b (map seen xs) (λ i. ltb i k && of_copper i) (λ i. ltb i (k + 1) && of_copper i) (none_more of_copper k (ap (is_kind_of true) (source_at k x lt is) ∙ drill)) so_far
-
-  -- all of them
-  pub copper_all : (a b : CheckView) (k : ℕ) → length xs ≤ k → JudgesThose a b (map seen xs) (λ i. ltb i k && of_copper i) → JudgesThose a b (map seen xs) of_copper
-  copper_all a b k le so_far =
-      judges_same a b (map seen xs) (λ i. ltb i k && of_copper i) of_copper (all_below of_copper k (λ i past. no_kind_past true (map seen xs) i (omega (arith, length-map xs seen, le, past)))) so_far
-
   -- the number of the next layer after a copper file
   pub number_taken : (k : ℕ) (x : X) → k < length xs → x ≡ get_or xs k x → is_copper (seen x).role ≡ true → layer_number (map seen xs) (k + 1) ≡ layer_number (map seen xs) k + 1
   number_taken k x lt is copper =

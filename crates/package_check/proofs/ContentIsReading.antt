@@ -6,16 +6,12 @@ use Rattle.manifest.specs.declared.Role.TheVariants as role
 bytes_content : (q : Role) (name : List ℕ) (span : Option LayerSpan) (bytes : List ℕ) (n : Setting) (c : Content) → ReadsBytes (record { role = q; name = name; span = span; bytes = bytes; setting = n }) (Ok c)
     → BytesHaveContent (record { role = q; name = name; span = span; bytes = bytes; setting = n }) c
 bytes_content role.Copper name span bytes n c h = h
-bytes_content role.Plated name span bytes n c h = h
-bytes_content role.Unplated name span bytes n c h = h
-bytes_content role.Mixed name span bytes n c h = h
+bytes_content q name span bytes n c h = h
 
 bytes_read : (q : Role) (name : List ℕ) (span : Option LayerSpan) (bytes : List ℕ) (n : Setting) (c : Content) → BytesHaveContent (record { role = q; name = name; span = span; bytes = bytes; setting = n }) c
     → ReadsBytes (record { role = q; name = name; span = span; bytes = bytes; setting = n }) (Ok c)
 bytes_read role.Copper name span bytes n c h = h
-bytes_read role.Plated name span bytes n c h = h
-bytes_read role.Unplated name span bytes n c h = h
-bytes_read role.Mixed name span bytes n c h = h
+bytes_read q name span bytes n c h = h
 
 -- a file with a content has no bad span
 good_span : (t : Bool) (s : FileView) (c : Content) → ReadsUnlessBadSpan t s (Ok c) → (t ≡ false) × ReadsBytes s (Ok c)

@@ -3,7 +3,8 @@ use Rattle.package_check.proofs.Common.{◌≡◌, ◌+◌, ◌≤◌, ◌++◌,
 use Rattle.package_check.specs.declared.contents.Content.TheVariants as content
 use Rattle.package_check.proofs.BoardsLemmas.{all_listed}
 use Rattle.package_check.proofs.ContentIsReading.{content_read}
-use Rattle.package_check.proofs.FileKinds.{drill_files_more, layer_is_copper, not_true}
+use Rattle.grid_units.proofs.BoolLemmas.{not_true}
+use Rattle.package_check.proofs.FileKinds.{drill_files_more, file_kind}
 
 -- ---- holes and their counts
 
@@ -94,9 +95,8 @@ drill_contents keep (s ∷ ss) (x ∷ xs) le drills copper =
 module _ (rules : GridRules) (holes : List Drilled) where
   -- no ring is lacking in a drill file
   no_rings : (layer : ℕ) (s : FileView) (c : Content) → is_copper s.role ≡ false → HasContent s c → rings_of rules holes layer c ≡ []
-  no_rings layer s (content.Layer image) drill has = absurd (both_ways (is_copper s.role) drill (layer_is_copper s image has))
-  no_rings layer s (content.Drill plated span hs) drill has = refl
-  no_rings layer s (content.Mixed span hs) drill has = refl
+  no_rings layer s (content.Layer image) drill has = absurd (both_ways (is_copper s.role) drill (file_kind s (content.Layer image) has))
+  no_rings layer s c drill has = refl
 
   drill_judged : (keep : Keep) (layer : ℕ) (s : FileView) (one : Kept) (left : Judged) → is_copper s.role ≡ false → IsKeptOf keep s one → left.sum ≡ sum_of one.content → left.rings.items ≡ []
       → Judges rules holes layer s (Ok left)

@@ -1,19 +1,6 @@
 -- Flashes, and what is drawn, that are kept file by file.
 use Rattle.package_check.proofs.Common.{◌≡◌, ◌<◌, ◌∷◌, ℕ, zero, suc, List, [], Result, Ok, length, get_or, arith, refl, true, ap, ◌∙◌, false≢true, Fault, without_places, drawn_in, keeps_drawn, keeps_rows, LayerImage, ReadingIsUniqueIn, Drawn, Keep, Draws, FileView, AreDrawnOf, AreFileLists}
-use Rattle.layer_features.specs.declared.keep.Keep.TheVariants as keep
-
--- flashes are kept where commands are
-pub flashes_too : (kept : Keep) → keeps_drawn kept ≡ true → keeps_rows kept ≡ true
-flashes_too keep.RowsAndDrawn h = refl
-flashes_too keep.Layer h = absurd (false≢true h)
-flashes_too keep.Rows h = absurd (false≢true h)
-flashes_too keep.Pads h = absurd (false≢true h)
-
-abbrev the_ok : LayerImage → Result LayerImage Fault
-the_ok image = Ok image
-
-ok_same : {a b : LayerImage} → the_ok a ≡ the_ok b → a ≡ b
-ok_same e = cc
+use Rattle.package_check.proofs.FlashReadingLemmas.{ok_same}
 
 -- what a text draws is what each layer draws that it reads as
 pub drawn_read : ReadingIsUniqueIn → (source : FileView) (drawn : List Drawn) → Draws source.setting.profile source.bytes drawn → AreDrawnOf source drawn

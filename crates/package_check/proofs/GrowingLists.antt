@@ -26,5 +26,4 @@ any_name q name span bytes n answer h = by (is_bad_span q span n.layers) h
 -- a file that is no layer has no place among the layers, by its counts
 pub no_index : (i : ℕ) (file : FileSum) → ((pads other contours : ℕ) → file ≡ sum.Layer pads other contours → ⊥) → index_in (i, file) ≡ []
 no_index i (sum.Layer pads other contours) h = absurd (h pads other contours refl)
-no_index i (sum.Drill plated span contradicted round slots) h = refl
-no_index i (sum.Mixed span round slots unplated) h = refl
+no_index i file h = refl

@@ -5,7 +5,7 @@ use Rattle.package_check.specs.declared.contents.Content.TheVariants as content
 use Rattle.package_check.proofs.AnswerUniqueness.{same_contents}
 use Rattle.package_check.proofs.BoardsLemmas.{numbered_all}
 use Rattle.package_check.proofs.ContentIsReading.{content_read}
-use Rattle.package_check.proofs.FileKinds.{drill_is_no_copper, mixed_is_no_copper, drills_among, layer_is_copper}
+use Rattle.package_check.proofs.FileKinds.{drills_among, file_kind, is_layer}
 use Rattle.package_check.proofs.Passing.{all_drilled}
 use Rattle.package_check.proofs.TakeSteps.{first_refused}
 
@@ -20,14 +20,12 @@ sums_counted (Some one ∷ os) =
 -- the number of the layer after a file with this content, if its own would be n
 abbrev number_after : ℕ → Content → ℕ
 number_after n (content.Layer image) = n + 1
-number_after n (content.Drill plated span drill) = n
-number_after n (content.Mixed span holes) = n
+number_after n _ = n
 
 -- the index of a copper file by its counts is that by its content
 one_index : (n : ℕ) (c : Content) → index_in (n, sum_of c) ≡ index_of (n, c)
 one_index n (content.Layer image) = refl
-one_index n (content.Drill plated span drill) = refl
-one_index n (content.Mixed span holes) = refl
+one_index n c = refl
 
 pub indexes_from : (n : ℕ) (contents : List Content) → flat_map index_in (enumerate_from n (map sum_of contents)) ≡ flat_map index_of (enumerate_from n contents)
 indexes_from n [] = refl
@@ -48,10 +46,8 @@ module _ (rules : GridRules) (holes : List Drilled) where
       ap (λ (fs : List Finding). layer_findings wide_pad_covers rules.profile rules.ring holes n image.pads ++ fs) (rings_composed (n + 1) cs)
       ∙ (sym (flat_map-cons (λ (layer : ℕ × List WidePad). layer_findings wide_pad_covers rules.profile rules.ring holes layer.0 layer.1) (n, image.pads) (enumerate_from (n + 1) (layers cs)))
       ∙ ap (λ (ps : List (List WidePad)). flat_map (λ (layer : ℕ × List WidePad). layer_findings wide_pad_covers rules.profile rules.ring holes layer.0 layer.1) (enumerate_from n ps)) (sym (flat_map-cons pads_of (content.Layer image) cs)))
-  rings_composed n (content.Drill plated span holes_of_all ∷ cs) =
-      rings_composed n cs ∙ ap (λ (ps : List (List WidePad)). flat_map (λ (layer : ℕ × List WidePad). layer_findings wide_pad_covers rules.profile rules.ring holes layer.0 layer.1) (enumerate_from n ps)) (sym (flat_map-cons pads_of (content.Drill plated span holes_of_all) cs))
-  rings_composed n (content.Mixed span holes_of_all ∷ cs) =
-      rings_composed n cs ∙ ap (λ (ps : List (List WidePad)). flat_map (λ (layer : ℕ × List WidePad). layer_findings wide_pad_covers rules.profile rules.ring holes layer.0 layer.1) (enumerate_from n ps)) (sym (flat_map-cons pads_of (content.Mixed span holes_of_all) cs))
+  rings_composed n (c ∷ cs) =
+      rings_composed n cs ∙ ap (λ (ps : List (List WidePad)). flat_map (λ (layer : ℕ × List WidePad). layer_findings wide_pad_covers rules.profile rules.ring holes layer.0 layer.1) (enumerate_from n ps)) (sym (flat_map-cons pads_of c cs))
 
   -- ---- the slots of all files
 
@@ -65,18 +61,14 @@ module _ (rules : GridRules) (holes : List Drilled) where
 
   -- the number of the next layer: one more after a copper file
   number_more : (n : ℕ) (s : FileView) (ss : List FileView) (i : ℕ) (c : Content) → HasContent s c → n + layer_number (s ∷ ss) (suc i) ≡ number_after n c + layer_number ss i
-  number_more n s ss i (content.Layer image) has =
-      let more : layer_number (s ∷ ss) (suc i) ≡ cond (is_copper s.role) 1 0 + layer_number ss i = sum_by-cons (λ (f : FileView). cond (is_copper f.role) 1 0) s (take i ss) in
-      let one : ◌≡◌ {A = ℕ} (cond (is_copper s.role) 1 0) 1 = ap (λ (t : Bool). let n : ℕ = cond t 1 0 in n) (layer_is_copper s image has) in
-      omega (arith, more, one)
-  number_more n s ss i (content.Drill plated span hs) has =
-      let more : layer_number (s ∷ ss) (suc i) ≡ cond (is_copper s.role) 1 0 + layer_number ss i = sum_by-cons (λ (f : FileView). cond (is_copper f.role) 1 0) s (take i ss) in
-      let one : ◌≡◌ {A = ℕ} (cond (is_copper s.role) 1 0) 0 = ap (λ (t : Bool). let n : ℕ = cond t 1 0 in n) (drill_is_no_copper s plated span hs has) in
-      omega (arith, more, one)
-  number_more n s ss i (content.Mixed span hs) has =
-      let more : layer_number (s ∷ ss) (suc i) ≡ cond (is_copper s.role) 1 0 + layer_number ss i = sum_by-cons (λ (f : FileView). cond (is_copper f.role) 1 0) s (take i ss) in
-      let one : ◌≡◌ {A = ℕ} (cond (is_copper s.role) 1 0) 0 = ap (λ (t : Bool). let n : ℕ = cond t 1 0 in n) (mixed_is_no_copper s span hs has) in
-      omega (arith, more, one)
+  number_more n s ss i c has = by c (ap (λ (t : Bool). let n : ℕ = cond t 1 0 in n) (file_kind s c has))
+    where
+      more : layer_number (s ∷ ss) (suc i) ≡ cond (is_copper s.role) 1 0 + layer_number ss i
+      more = sum_by-cons (λ (f : FileView). cond (is_copper f.role) 1 0) s (take i ss)
+
+      by : (d : Content) → ◌≡◌ {A = ℕ} (cond (is_copper s.role) 1 0) (cond (is_layer d) 1 0) → n + layer_number (s ∷ ss) (suc i) ≡ number_after n d + layer_number ss i
+      by (content.Layer image) one = omega (arith, more, one)
+      by d one = omega (arith, more, one)
 
   -- the first file, and those after it
   first_says : (n : ℕ) (s : FileView) (ss : List FileView) (x : Option Judged) (xs : List (Option Judged)) (one : Judged) (c : Content) → x ≡ Some one → HasContent s c → one.sum ≡ sum_of c → one.rings.items ≡ rings_of rules holes n c

@@ -5,41 +5,29 @@ use Rattle.std.specs.Prelude.{Option}
 -- one more hole
 marked_next : (span : Option LayerSpan) (holes : List GridHole) (plated : List Bool) (i : ℕ) (hole : GridHole) (one : Bool) → i < length holes → i < length plated → hole ≡ get_or holes i hole → one ≡ get_or plated i one
     → holes_with_platings span (take i holes) (take i plated) ++ record { hole = hole; plated = one; span = span } ∷ [] ≡ holes_with_platings span (take (suc i) holes) (take (suc i) plated)
-marked_next span [] plated i hole one lt le is was = absurd (omega arith)
-marked_next span (h ∷ hs) [] i hole one lt le is was = absurd (omega arith)
 marked_next span (h ∷ hs) (p ∷ ps) zero hole one lt le is was = λ j. record { hole = is j; plated = was j; span = span } ∷ []
 marked_next span (h ∷ hs) (p ∷ ps) (suc i) hole one lt le is was = ap (λ (ds : List Drilled). record { hole = h; plated = p; span = span } ∷ ds) (marked_next span hs ps i hole one (omega arith) (omega arith) is was)
-
-one_more : (i : ℕ) → suc i ≡ i + 1
-one_more i = omega arith
+marked_next span holes plated i hole one lt le is was = absurd (omega arith)
 
 pub marked_more : (span : Option LayerSpan) (holes : List GridHole) (plated : List Bool) (i : ℕ) (hole : GridHole) (one : Bool) → i < length holes → i < length plated → hole ≡ get_or holes i hole → one ≡ get_or plated i one
     → holes_with_platings span (take i holes) (take i plated) ++ record { hole = hole; plated = one; span = span } ∷ [] ≡ holes_with_platings span (take (i + 1) holes) (take (i + 1) plated)
-marked_more span holes plated i hole one lt le is was = marked_next span holes plated i hole one lt le is was ∙ ap (λ (n : ℕ). holes_with_platings span (take n holes) (take n plated)) (one_more i)
-
--- what is found at a place that is there does not depend on the value for places that are not
-pub found_at : (plated : List Bool) (i : ℕ) → i < length plated → get_or plated i false ≡ get_or plated i (get_or plated i false)
-found_at [] i lt = absurd (omega arith)
-found_at (p ∷ ps) zero lt = refl
-found_at (p ∷ ps) (suc i) lt = found_at ps i (omega arith)
+marked_more span holes plated i hole one lt le is was = marked_next span holes plated i hole one lt le is was ∙ ap (λ (n : ℕ). holes_with_platings span (take n holes) (take n plated)) (let on : suc i ≡ i + 1 = omega arith in on)
 
 -- all holes, once one of the lists has come to its end
 pub marked_all : (span : Option LayerSpan) (holes : List GridHole) (plated : List Bool) (i : ℕ) → (length holes ≤ i) ⊎ (length plated ≤ i) → holes_with_platings span (take i holes) (take i plated) ≡ holes_with_platings span holes plated
-marked_all span [] plated zero h = refl
-marked_all span [] plated (suc i) h = refl
-marked_all span (h ∷ hs) [] zero k = refl
-marked_all span (h ∷ hs) [] (suc i) k = refl
 marked_all span (h ∷ hs) (p ∷ ps) zero (inl k) = absurd (omega arith)
 marked_all span (h ∷ hs) (p ∷ ps) zero (inr k) = absurd (omega arith)
 marked_all span (h ∷ hs) (p ∷ ps) (suc i) (inl k) = ap (λ (ds : List Drilled). record { hole = h; plated = p; span = span } ∷ ds) (marked_all span hs ps i (inl (omega (arith, k))))
 marked_all span (h ∷ hs) (p ∷ ps) (suc i) (inr k) = ap (λ (ds : List Drilled). record { hole = h; plated = p; span = span } ∷ ds) (marked_all span hs ps i (inr (omega (arith, k))))
+marked_all span [] plated zero h = refl
+marked_all span (h ∷ hs) [] zero k = refl
+marked_all span holes plated i h = refl
 
 -- each of them has the span
 pub marked_span : (span : Option LayerSpan) (holes : List GridHole) (plated : List Bool) (d : Drilled) → Contains (holes_with_platings span holes plated) d → d.span ≡ span
 marked_span span holes plated d h = by holes plated h.0 h.1 h.2
   where
     by : (hs : List GridHole) (ps : List Bool) (k : ℕ) → k < length (holes_with_platings span hs ps) → get_or (holes_with_platings span hs ps) k d ≡ d → d.span ≡ span
-    by [] ps k lt e = absurd (omega arith)
-    by (h ∷ hs) [] k lt e = absurd (omega arith)
     by (h ∷ hs) (p ∷ ps) zero lt e = sym (ap (λ (x : Drilled). x.span) e)
     by (h ∷ hs) (p ∷ ps) (suc k) lt e = by hs ps k (omega arith) e
+    by hs ps k lt e = absurd (omega arith)

@@ -13,10 +13,7 @@ use Rattle.layer_features.specs.declared.feature.FeatureKind.TheVariants as kind
 one_more : (k : ℕ) (what : FeatureKind) (places : List ℕ) (pads : List WidePad) → length places ≡ length pads → length (cons_option (cond (is_pad_row (row_kind what)) (Some k) None) places) ≡ length (cons_option (pad_in what) pads)
 one_more k (kind.Pad pad) places pads e = ap suc e
 one_more k (kind.Contour pad) places pads e = ap suc e
-one_more k (kind.Macro why) places pads e = e
-one_more k (kind.Other why) places pads e = e
-one_more k kind.Clear places pads e = e
-one_more k kind.Cleared places pads e = e
+one_more k what places pads e = e
 
 matched_from : (k : ℕ) (features : List Feature) → length (filter_map pad_place (enumerate_from k (rows_of features))) ≡ length (pads_of features)
 matched_from k [] = refl

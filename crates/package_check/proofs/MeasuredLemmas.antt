@@ -13,20 +13,9 @@ use Rattle.package_check.specs.Reports.{ReportView}
 use Rattle.package_check.specs.declared.PackageFault.{PackageFault}
 use Rattle.package_check.specs.declared.PackageFault.TheVariants as stop
 use Rattle.package_check.proofs.BoardsLemmas.{reported_on}
+use Rattle.package_check.proofs.FlashReadingLemmas.{err_same, ok_or_err, ok_same}
 use Rattle.board_report.proofs.MeasuresLemmas.{board_passes}
 use Rattle.report.specs.declared.Measure.{Measure}
-
-abbrev answered : ReportView → Result ReportView (ℕ × Fault)
-answered report = Ok report
-
-ok_same : {x y : ReportView} → answered x ≡ answered y → x ≡ y
-ok_same e = cc
-
-ok_or_err : {x : ReportView} {e : ℕ × Fault} → answered x ≡ Err e → ⊥
-ok_or_err e = cc
-
-err_same : {x y : ℕ × Fault} → (let a : Result ReportView (ℕ × Fault) = Err x in let b : Result ReportView (ℕ × Fault) = Err y in a ≡ b) → x ≡ y
-err_same e = cc
 
 pub measured_passes : RingsPassExactly wide_pad_covers → GapsPassExactly → AnswerIsUnique → MeasuredPasses
 measured_passes rings gaps one profile sources board ring gap is met_rings met_gaps =
@@ -50,7 +39,6 @@ module _ (profile : Profile) (sources : List FileView) where
   refused_alike one (Ok measure) h rules (Ok report) k = tt
   refused_alike one (Ok measure) h rules (Err refusal) k =
       ok_or_err (one sources rules (Ok (report_of_board rules h.board)) (Err refusal) (reported_on sources rules h.board (report_of_board rules h.board) h.read refl) k)
-  refused_alike one (Err stop.Memory) h rules (Ok report) k = tt
-  refused_alike one (Err stop.Memory) h rules (Err refusal) k = tt
+  refused_alike one (Err stop.Memory) h rules answer k = tt
   refused_alike one (Err (stop.File index fault)) h rules (Ok report) k = ok_or_err (one sources rules (Ok report) (Err (index, fault)) k h)
   refused_alike one (Err (stop.File index fault)) h rules (Err refusal) k = err_same (one sources rules (Err refusal) (Err (index, fault)) k h)

@@ -1,5 +1,5 @@
 -- A sound package has no oblique plated slot in the strict profile.
-use Rattle.package_check.proofs.Common.{◌≡◌, ◌<◌, ◌≤◌, ◌+◌, ◌-◌, ℕ, zero, suc, Bool, true, false, not, cond, ◌&&◌, leb, List, [], ◌∷◌, Option, Some, None, length, get_or, arith, refl, sym, ap, subst, ◌∙◌, AllZip, Contains, count_by, filter, flat_map, le-leb, sum_by-cons, GridHole, Profile, Strict, Wide, LayerSpan, is_in_span, Drilled, DrillCommand, Role, FileView, is_copper, AreDrilledBy, HolesAreSaidOnce, IsRun, SoundIsStraight, LiesAsAllowed, SaysHoles, SaysPads}
+use Rattle.package_check.proofs.Common.{◌≡◌, ◌<◌, ◌≤◌, ◌+◌, ◌-◌, ℕ, zero, suc, Bool, true, false, not, cond, ◌&&◌, leb, List, [], ◌∷◌, Option, Some, None, length, get_or, arith, refl, sym, ap, subst, ◌∙◌, AllZip, Contains, count_by, filter, flat_map, le-leb, sum_by-cons, GridHole, Profile, Strict, Wide, LayerSpan, is_in_span, Drilled, DrillCommand, Role, FileView, is_copper, AreDrilledBy, HolesAreSaidOnce, IsRun, SoundIsStraight, LiesAsAllowed, SaysHoles, SaysPads, both_ways}
 use Rattle.std.proofs.lemmas.Slice.Zip.{AllZip-long}
 use Rattle.pad_shapes.specs.Shapes.{IsAxisAligned}
 use Rattle.grid_units.proofs.ListLemmas.{flat_map_at}
@@ -17,14 +17,10 @@ some_layer (Some s) n some run =
     let back : s.first - 1 + 1 ≡ s.first = omega (arith, first) in
     (s.first - 1, omega (arith, first, order, last), ap (λ k. leb s.first k && leb k s.last) back ∙ (λ i. le-leb s.first s.first (omega arith) i && le-leb s.first s.last order i))
 
-true_or_false : (t : Bool) → t ≡ true → t ≡ false → ⊥
-true_or_false true e k = cc
-true_or_false false e k = cc
-
 -- a plated hole is one of a drill file, and has its span
 plated_is_drill : (q : Role) (span : Option LayerSpan) (commands : List DrillCommand) (holes : List GridHole) (drilled : List Drilled) (d : Drilled) → AreDrilledBy q span commands holes drilled → Contains drilled d → d.plated ≡ true
     → (not (is_copper q) ≡ true) × (d.span ≡ span)
-plated_is_drill role.Copper span commands holes drilled d is h plated = absurd (true_or_false d.plated plated (hole_among false span holes d (subst (λ (ds : List Drilled). Contains ds d) is h)).1)
+plated_is_drill role.Copper span commands holes drilled d is h plated = absurd (both_ways d.plated (hole_among false span holes d (subst (λ (ds : List Drilled). Contains ds d) is h)).1 plated)
 plated_is_drill role.Plated span commands holes drilled d is h plated = (refl, (hole_among true span holes d (subst (λ (ds : List Drilled). Contains ds d) is h)).2)
 plated_is_drill role.Unplated span commands holes drilled d is h plated = (refl, (hole_among false span holes d (subst (λ (ds : List Drilled). Contains ds d) is h)).2)
 plated_is_drill role.Mixed span commands holes drilled d is h plated = (refl, marked_span span holes is.0 d (subst (λ (ds : List Drilled). Contains ds d) is.2 h))

@@ -19,9 +19,7 @@ by_bytes false s r e h = h
 pub read_as_copper : (of : Role) (span : Option LayerSpan) (setting : Setting) (bytes : List ℕ) (r : Result Content Fail) → of ≡ role.Copper → is_bad_span of span setting.layers ≡ false → Answers {T = Content} (λ x. x) (ReadsCopper setting.profile bytes) r
     → Answers {T = Content} (λ x. x) (Reads (unnamed_file of span setting bytes)) r
 read_as_copper role.Copper span setting bytes r is good h = by_bytes (is_bad_span role.Copper span setting.layers) (unnamed_file role.Copper span setting bytes) r good h
-read_as_copper role.Plated span setting bytes r is good h = absurd (false≢true (ap is_copper is))
-read_as_copper role.Unplated span setting bytes r is good h = absurd (false≢true (ap is_copper is))
-read_as_copper role.Mixed span setting bytes r is good h = absurd (false≢true (ap is_copper is))
+read_as_copper of span setting bytes r is good h = absurd (false≢true (ap is_copper is))
 
 -- and of a drill file
 as_drill : (plated : Bool) (span : Option LayerSpan) (setting : Setting) (bytes : List ℕ) (r : Result Content Fail) → is_bad_span (drill_role plated) span setting.layers ≡ false → Answers {T = Content} (λ x. x) (ReadsHoles setting.profile plated span bytes) r
@@ -49,62 +47,35 @@ drill_refused : (profile : Profile) (plated : Bool) (span : Option LayerSpan) (t
 drill_refused Strict plated span text f h = h
 drill_refused Wide plated span text f h = h
 
--- the fault that the text of a layer shows stays
-pub layer_failed : ((profile : Profile) (text more : List ℕ) (f : Fault) → ShowsLayerFaultIn profile text f → layers.ReadsLayerIn profile (text ++ more) (Err f)) → (of : Role) (span : Option LayerSpan) (setting : Setting) (text : List ℕ) (e : Fail)
-    → of ≡ role.Copper → is_bad_span of span setting.layers ≡ false → IfFault (ShowsLayerFaultIn setting.profile text) e → HasFailed of span setting e text
-layer_failed law of span setting text fails.Memory is good h = tt
-layer_failed law of span setting text (fails.Refused f) is good h = λ more. read_as_copper of span setting (text ++ more) (Err (fails.Refused f)) is good (inl (law setting.profile text more f h))
-
--- and that of a drill text
-pub drill_failed : ((kind : Kind) (text more : List ℕ) (f : Fault) → ShowsBy kind text (Err f) → ReadsBy kind (text ++ more) (Err f)) → (of : Role) (plated : Bool) (span : Option LayerSpan) (setting : Setting) (text : List ℕ) (e : Fail)
-    → of ≡ drill_role plated → is_bad_span of span setting.layers ≡ false → IfFault (λ f. ShowsBy (drill_kind setting.profile plated) text (Err f)) e → HasFailed of span setting e text
-drill_failed law of plated span setting text fails.Memory is good h = tt
-drill_failed law of plated span setting text (fails.Refused f) is good h = λ more. read_as_drill of plated span setting (text ++ more) (Err (fails.Refused f)) is good (drill_refused setting.profile plated span (text ++ more) f (law (drill_kind setting.profile plated) text more f h))
-
--- and that of a mixed one
-pub mixed_failed : ((kind : Kind) (text more : List ℕ) (f : Fault) → ShowsBy kind text (Err f) → ReadsBy kind (text ++ more) (Err f)) → (of : Role) (span : Option LayerSpan) (setting : Setting) (text : List ℕ) (e : Fail)
-    → of ≡ role.Mixed → is_bad_span of span setting.layers ≡ false → IfFault (λ f. ShowsBy (mixed_in setting.profile) text (Err f)) e → HasFailed of span setting e text
-mixed_failed law of span setting text fails.Memory is good h = tt
-mixed_failed law of span setting text (fails.Refused f) is good h = λ more. read_as_mixed of span setting (text ++ more) (Err (fails.Refused f)) is good (law (mixed_in setting.profile) text more f h)
-
--- and so it is refused in the end
+-- a file that has failed is refused in the end
 pub failed_read : (of : Role) (span : Option LayerSpan) (setting : Setting) (text : List ℕ) (e : Fail) → HasFailed of span setting e text → Answers {T = Content} (λ x. x) (Reads (unnamed_file of span setting text)) (Err e)
 failed_read of span setting text fails.Memory h = tt
 failed_read of span setting text (fails.Refused f) h = subst (λ (t : List ℕ). Reads (unnamed_file of span setting t) (Err f)) (append-nil text) (h [])
 
 -- ---- steps
 
--- what holds anyway holds beside what holds of a success
-pub and_on : {A B : Type 0} (C : Type 0) (r : Result (Unit {0}) Fail) → A → B → OnOk r C → OnOk r (A × B × C)
-and_on C (Ok u) a b h = (a, b, h)
-and_on C (Err e) a b h = tt
+-- why the next piece of a file was refused: its fault is one of the file, however the text goes on
+errs : (Shows : Fault → Type 0) (of : Role) (span : Option LayerSpan) (setting : Setting) (text : List ℕ) → ((f : Fault) → Shows f → (more : List ℕ) → Reads (unnamed_file of span setting (text ++ more)) (Err f)) → (r : Result (Unit {0}) Fail)
+    → IfErr r (IfFault Shows) → IfErr r (λ fail. HasFailed of span setting fail text)
+errs Shows of span setting text stays (Ok u) h = tt
+errs Shows of span setting text stays (Err fails.Memory) h = tt
+errs Shows of span setting text stays (Err (fails.Refused f)) h = stays f h
 
--- and so does one thing
-pub also_on : {A : Type 0} (C : Type 0) (r : Result (Unit {0}) Fail) → A → OnOk r C → OnOk r (A × C)
-also_on C (Ok u) a h = (a, h)
-also_on C (Err e) a h = tt
-
--- a fault that is shown in a profile is shown in the same one
-pub shown_on : (p q : Profile) (text : List ℕ) (r : Result (Unit {0}) Fail) → p ≡ q → IfErr r (IfFault (ShowsLayerFaultIn p text)) → IfErr r (IfFault (ShowsLayerFaultIn q text))
-shown_on p q text r is h = subst (λ (s : Profile). IfErr r (IfFault (ShowsLayerFaultIn s text))) is h
-
--- why the next piece of a layer was refused
 pub layer_errs : ((profile : Profile) (text more : List ℕ) (f : Fault) → ShowsLayerFaultIn profile text f → layers.ReadsLayerIn profile (text ++ more) (Err f)) → (of : Role) (span : Option LayerSpan) (setting : Setting) (text : List ℕ) (r : Result (Unit {0}) Fail)
     → of ≡ role.Copper → is_bad_span of span setting.layers ≡ false → IfErr r (IfFault (ShowsLayerFaultIn setting.profile text)) → IfErr r (λ fail. HasFailed of span setting fail text)
-layer_errs law of span setting text (Ok u) is good h = tt
-layer_errs law of span setting text (Err e) is good h = layer_failed law of span setting text e is good h
+layer_errs law of span setting text r is good h =
+    errs (ShowsLayerFaultIn setting.profile text) of span setting text (λ f shown more. read_as_copper of span setting (text ++ more) (Err (fails.Refused f)) is good (inl (law setting.profile text more f shown))) r h
 
--- and of a drill file
 pub drill_errs : ((kind : Kind) (text more : List ℕ) (f : Fault) → ShowsBy kind text (Err f) → ReadsBy kind (text ++ more) (Err f)) → (of : Role) (plated : Bool) (span : Option LayerSpan) (setting : Setting) (text : List ℕ) (r : Result (Unit {0}) Fail)
     → of ≡ drill_role plated → is_bad_span of span setting.layers ≡ false → IfErr r (IfFault (λ f. ShowsBy (drill_kind setting.profile plated) text (Err f))) → IfErr r (λ fail. HasFailed of span setting fail text)
-drill_errs law of plated span setting text (Ok u) is good h = tt
-drill_errs law of plated span setting text (Err e) is good h = drill_failed law of plated span setting text e is good h
+drill_errs law of plated span setting text r is good h =
+    errs (λ f. ShowsBy (drill_kind setting.profile plated) text (Err f)) of span setting text
+    (λ f shown more. read_as_drill of plated span setting (text ++ more) (Err (fails.Refused f)) is good (drill_refused setting.profile plated span (text ++ more) f (law (drill_kind setting.profile plated) text more f shown))) r h
 
--- and of a mixed one
 pub mixed_errs : ((kind : Kind) (text more : List ℕ) (f : Fault) → ShowsBy kind text (Err f) → ReadsBy kind (text ++ more) (Err f)) → (of : Role) (span : Option LayerSpan) (setting : Setting) (text : List ℕ) (r : Result (Unit {0}) Fail)
     → of ≡ role.Mixed → is_bad_span of span setting.layers ≡ false → IfErr r (IfFault (λ f. ShowsBy (mixed_in setting.profile) text (Err f))) → IfErr r (λ fail. HasFailed of span setting fail text)
-mixed_errs law of span setting text (Ok u) is good h = tt
-mixed_errs law of span setting text (Err e) is good h = mixed_failed law of span setting text e is good h
+mixed_errs law of span setting text r is good h =
+    errs (λ f. ShowsBy (mixed_in setting.profile) text (Err f)) of span setting text (λ f shown more. read_as_mixed of span setting (text ++ more) (Err (fails.Refused f)) is good (law (mixed_in setting.profile) text more f shown)) r h
 
 -- the fault of a text is that of what is kept of it
 pub layer_fault : (profile : Profile) (keep : Keep) (left : List WidePad) (text : List ℕ) (e : Fail) → Answers {T = KeptLayer} (λ layer. layer) (ReadsKeptIn profile keep left text) (Err e) → Answers {T = LayerView} (λ x. x) (ReadsLayer profile text) (Err e)

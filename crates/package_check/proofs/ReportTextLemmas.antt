@@ -1,6 +1,7 @@
 -- The lines of a report, one after another.
-use Rattle.package_check.proofs.Common.{◌≡◌, ◌<◌, ◌≤◌, ◌+◌, ◌++◌, ℕ, zero, suc, List, [], ◌∷◌, Bor, length, map, drop, get_or, arith, refl, ap, sym, ◌∙◌, append_assoc, append-nil, FileSum, Profile, Setting, file_view, file_line, file_lines}
+use Rattle.package_check.proofs.Common.{◌≡◌, ◌<◌, ◌≤◌, ◌+◌, ◌++◌, ℕ, zero, suc, List, [], ◌∷◌, Bor, length, map, drop, get_or, arith, refl, ap, sym, ◌∙◌, append_assoc, append-nil, FileSum, Profile, Setting, file_view, file_line, file_lines, length-map}
 use Rattle.package_check.specs.declared.File.{File}
+use Rattle.std.proofs.lemmas.List.{drop_all}
 
 abbrev pub texts_of : List (Bor (List ℕ)) → List (List ℕ)
 texts_of names = map (λ name. name.now) names
@@ -9,30 +10,21 @@ texts_of names = map (λ name. name.now) names
 next_line : (p : Profile) (names : List (Bor (List ℕ))) (sums : List FileSum) (i n : ℕ) (d : Bor (List ℕ)) (e : FileSum) → i < length names → i < length sums
     → file_lines p n (drop i (texts_of names)) (drop i sums) ≡ file_line p n (get_or names i d).now (get_or sums i e) ++ file_lines p (n + 1) (drop (i + 1) (texts_of names)) (drop (i + 1) sums)
 unfolding file_lines
-next_line p [] sums i n d e lt more = absurd (omega arith)
-next_line p (f ∷ names) [] i n d e lt more = absurd (omega arith)
 next_line p (f ∷ names) (s ∷ sums) zero n d e lt more = refl
 next_line p (f ∷ names) (s ∷ sums) (suc i) n d e lt more = let k : suc i + 1 ≡ suc (i + 1) = omega arith in rw k (next_line p names sums i n d e (omega arith) (omega arith))
+next_line p names sums i n d e lt more = absurd (omega arith)
 
 none_without : (p : Profile) (n : ℕ) (xs : List (List ℕ)) → file_lines p n xs [] ≡ []
 unfolding file_lines
 none_without p n [] = refl
-none_without p n (x ∷ xs) = refl
+none_without p n xs = refl
 
 no_line : (p : Profile) (names : List (Bor (List ℕ))) (sums : List FileSum) (i n : ℕ) → length names ≤ i → file_lines p n (drop i (texts_of names)) (drop i sums) ≡ []
 unfolding file_lines
-no_line p [] sums zero n lt = refl
-no_line p [] sums (suc i) n lt = refl
-no_line p (f ∷ names) sums zero n lt = absurd (omega arith)
-no_line p (f ∷ names) [] (suc i) n lt = none_without p n (drop i (texts_of names))
-no_line p (f ∷ names) (s ∷ sums) (suc i) n lt = no_line p names sums i n (omega arith)
+no_line p names sums i n lt = ap (λ (xs : List (List ℕ)). file_lines p n xs (drop i sums)) (drop_all i (texts_of names) (omega (arith, lt, length-map names (λ (name : Bor (List ℕ)). name.now))))
 
 no_sum : (p : Profile) (names : List (Bor (List ℕ))) (sums : List FileSum) (i n : ℕ) → length sums ≤ i → file_lines p n (drop i (texts_of names)) (drop i sums) ≡ []
-no_sum p names [] zero n lt = none_without p n (texts_of names)
-no_sum p names [] (suc i) n lt = none_without p n (drop (suc i) (texts_of names))
-no_sum p names (s ∷ sums) zero n lt = absurd (omega arith)
-no_sum p [] (s ∷ sums) (suc i) n lt = no_line p [] (s ∷ sums) (suc i) n (omega arith)
-no_sum p (f ∷ names) (s ∷ sums) (suc i) n lt = no_sum p names sums i n (omega arith)
+no_sum p names sums i n lt = ap (file_lines p n (drop i (texts_of names))) (drop_all i sums lt) ∙ none_without p n (drop i (texts_of names))
 
 -- one more line
 pub line_more : (p : Profile) (names : List (Bor (List ℕ))) (sums : List FileSum) (i n : ℕ) (d : Bor (List ℕ)) (e : FileSum) (all before after : List ℕ) → i < length names → i < length sums

@@ -19,10 +19,8 @@ pads_once one_text one_list wide_list file a b s t =
 
 -- the platings of the holes of these commands are said once
 drilled_once : CalledIsListed → (q : Role) (span : Option LayerSpan) (commands : List DrillCommand) (holes : List GridHole) (a b : List Drilled) → AreDrilledBy q span commands holes a → AreDrilledBy q span commands holes b → a ≡ b
-drilled_once listed role.Copper span commands holes a b h k = h ∙ sym k
-drilled_once listed role.Plated span commands holes a b h k = h ∙ sym k
-drilled_once listed role.Unplated span commands holes a b h k = h ∙ sym k
 drilled_once listed role.Mixed span commands holes a b h k = h.2 ∙ (ap (holes_with_platings span holes) (listed commands h.0 h.1 ∙ sym (listed commands k.0 k.1)) ∙ sym k.2)
+drilled_once listed q span commands holes a b h k = h ∙ sym k
 
 pub holes_once : IsTextOfAtMostOne → DrillsAtMostOneList → CalledIsListed → HolesAreSaidOnce
 holes_once one_text one_list listed file a b s t =

@@ -4,8 +4,9 @@ use Rattle.grid_units.specs.declared.fault.Fail.TheVariants as fails
 use Rattle.package_check.specs.declared.PackageFault.TheVariants as stop
 use Rattle.board.specs.declared.Shown.{Shown}
 use Rattle.package_check.proofs.ContentIsReading.{content_read}
-use Rattle.package_check.proofs.FlashesByFile.{drawn_read, flashes_too, lists_first, no_lists}
+use Rattle.package_check.proofs.FlashesByFile.{drawn_read, lists_first, no_lists}
 use Rattle.package_check.proofs.GrowingLists.{any_name}
+use Rattle.package_check.proofs.ShownLemmas.{rows_where_drawn}
 
 -- ---- tests of what was taken
 
@@ -16,10 +17,6 @@ or_none false = refl
 pub or_together : (x y z : Bool) → ((x || y) || z) ≡ (x || (y || z))
 or_together true y z = refl
 or_together false y z = refl
-
--- the same files, by another test
-pub taken_same : (reader : PackageReader) (keep : Keep) (sources : List FileView) (p q : ℕ → Bool) → ((i : ℕ) → p i ≡ q i) → HasTaken reader keep sources p → HasTaken reader keep sources q
-taken_same reader keep sources p q same h = subst (λ (t : ℕ → Bool). HasTaken reader keep sources t) (λ j. λ i. same i j) h
 
 pub stopped_alike : (xs ys : List FileView) (p : ℕ → Bool) → ((i : ℕ) → p i ≡ true → slice_get ys i ≡ slice_get xs i) → (stopped : Option PackageFault) → StoppedAmong xs p stopped → StoppedAmong ys p stopped
 stopped_alike xs ys p same None h = tt
@@ -39,19 +36,27 @@ taken_alike reader keep xs ys p size same h = record {
   };
 }
 
--- what is taken one after the other
-pub takes_then : (a b c : PackageReader) (sources : List FileView) (p q r : ℕ → Bool) → ((i : ℕ) → (p i || q i) ≡ r i) → TakesThose a b sources p → TakesThose b c sources q → TakesThose a c sources r
-takes_then a b c sources p q r same first second keep taken h =
-    taken_same c keep sources (λ i. (taken i || p i) || q i) (λ i. taken i || r i) (λ i. or_together (taken i) (p i) (q i) ∙ ap (λ (t : Bool). taken i || t) (same i))
-    (second keep (λ i. taken i || p i) (first keep taken h))
+-- `Has` says what a state holds of the files that were taken, those at the indexes that pass a test
+module _ {S K : Type 0} (Has : S → K → (ℕ → Bool) → Type 0) where
+  -- between two states the files are taken that pass a test
+  abbrev pub Takes : S → S → (ℕ → Bool) → Type 0
+  Takes before after test = (k : K) (taken : ℕ → Bool) → Has before k taken → Has after k (λ i. taken i || test i)
 
--- nothing is taken
-pub takes_none : (reader : PackageReader) (sources : List FileView) (p : ℕ → Bool) → ((i : ℕ) → false ≡ p i) → TakesThose reader reader sources p
-takes_none reader sources p none keep taken h = taken_same reader keep sources taken (λ i. taken i || p i) (λ i. sym (or_none (taken i)) ∙ ap (λ (t : Bool). taken i || t) (none i)) h
+  -- the same files, by another test
+  has_same : (s : S) (k : K) (p q : ℕ → Bool) → ((i : ℕ) → p i ≡ q i) → Has s k p → Has s k q
+  has_same s k p q same h = subst (λ (t : ℕ → Bool). Has s k t) (λ j. λ i. same i j) h
 
--- the same is taken, by another test
-pub takes_same : (a b : PackageReader) (sources : List FileView) (p q : ℕ → Bool) → ((i : ℕ) → p i ≡ q i) → TakesThose a b sources p → TakesThose a b sources q
-takes_same a b sources p q same h keep taken was = taken_same b keep sources (λ i. taken i || p i) (λ i. taken i || q i) (λ i. ap (λ (t : Bool). taken i || t) (same i)) (h keep taken was)
+  takes_same : (a b : S) (p q : ℕ → Bool) → ((i : ℕ) → p i ≡ q i) → Takes a b p → Takes a b q
+  takes_same a b p q same h k taken was = has_same b k (λ i. taken i || p i) (λ i. taken i || q i) (λ i. ap (λ (t : Bool). taken i || t) (same i)) (h k taken was)
+
+  -- what is taken one after the other
+  takes_then : (a b c : S) (p q r : ℕ → Bool) → ((i : ℕ) → (p i || q i) ≡ r i) → Takes a b p → Takes b c q → Takes a c r
+  takes_then a b c p q r same first second k taken h =
+      has_same c k (λ i. (taken i || p i) || q i) (λ i. taken i || r i) (λ i. or_together (taken i) (p i) (q i) ∙ ap (λ (t : Bool). taken i || t) (same i)) (second k (λ i. taken i || p i) (first k taken h))
+
+  -- nothing is taken
+  takes_none : (s : S) (p : ℕ → Bool) → ((i : ℕ) → false ≡ p i) → Takes s s p
+  takes_none s p none k taken h = has_same s k taken (λ i. taken i || p i) (λ i. sym (or_none (taken i)) ∙ ap (λ (t : Bool). taken i || t) (none i)) h
 
 -- of those below an index that pass a test, none so far
 pub none_below : (test : ℕ → Bool) (i : ℕ) → false ≡ (ltb i 0 && test i)
@@ -236,9 +241,13 @@ wanted before after index source read (Ok v) on keeps slots stops memory = λ so
       (subst (λ (k : Keep). ReadsAt k index source before.slots.items after.slots.items read) h.keeps slots) stops (λ is. let e = memory is in absurd cc) h.holds;
 }
 
--- ---- a reader takes the files of one kind, one after the other
+-- ---- the files of one kind are taken, one after the other
 
-module _ {X : Type 0} (seen : X → FileView) (copper : Bool) (xs : List X) where
+-- what a reader holds of the files of a package
+abbrev pub OfReader : List FileView → PackageReader → Keep → (ℕ → Bool) → Type 0
+OfReader sources reader keep taken = HasTaken reader keep sources taken
+
+module _ {S K X : Type 0} (Has : S → K → (ℕ → Bool) → Type 0) (seen : X → FileView) (copper : Bool) (xs : List X) where
   -- whether the file at an index is of the kind
   abbrev of_kind : ℕ → Bool
   of_kind i = is_kind_at copper (map seen xs) i
@@ -247,27 +256,26 @@ module _ {X : Type 0} (seen : X → FileView) (copper : Bool) (xs : List X) wher
   file_at k x lt is = slice_get-map seen xs k ∙ ap (option_map seen) (slice_get_read xs (length xs) k x refl lt is)
 
   -- none so far
-  pub kind_none : (a : PackageReader) → TakesThose a a (map seen xs) (λ i. ltb i 0 && of_kind i)
-  kind_none a = takes_none a (map seen xs) (λ i. ltb i 0 && of_kind i) (none_below of_kind)
+  pub kind_none : (a : S) → Takes Has a a (λ i. ltb i 0 && of_kind i)
+  kind_none a = takes_none Has a (λ i. ltb i 0 && of_kind i) (none_below of_kind)
 
   -- and the next, which is of the kind
-  pub kind_taken : (a b c : PackageReader) (k : ℕ) (x : X) (s : FileView) → k < length xs → x ≡ get_or xs k x → is_kind copper (seen x).role ≡ true → s ≡ seen x
-      → TakesThose a b (map seen xs) (λ i. ltb i k && of_kind i) → TakesFile b c k s → TakesThose a c (map seen xs) (λ i. ltb i (k + 1) && of_kind i)
+  pub kind_taken : (a b c : S) (k : ℕ) (x : X) (s : FileView) → k < length xs → x ≡ get_or xs k x → is_kind copper (seen x).role ≡ true → s ≡ seen x
+      → Takes Has a b (λ i. ltb i k && of_kind i) → (slice_get (map seen xs) k ≡ Some s → Takes Has b c (λ i. eqb i k)) → Takes Has a c (λ i. ltb i (k + 1) && of_kind i)
   kind_taken a b c k x s lt is kind same so_far takes =
       let at = file_at k x lt is in
-      takes_then a b c (map seen xs) (λ i. ltb i k && of_kind i) (λ i. eqb i k) (λ i. ltb i (k + 1) && of_kind i) (one_more of_kind k (ap (is_kind_of copper) at ∙ kind)) so_far
-      (takes (map seen xs) (at ∙ ap (λ (y : FileView). Some y) (sym same)))
+      takes_then Has a b c (λ i. ltb i k && of_kind i) (λ i. eqb i k) (λ i. ltb i (k + 1) && of_kind i) (one_more of_kind k (ap (is_kind_of copper) at ∙ kind)) so_far
+      (takes (at ∙ ap (λ (y : FileView). Some y) (sym same)))
 
   -- or is not of the kind
-  pub kind_left : (a b : PackageReader) (k : ℕ) (x : X) → k < length xs → x ≡ get_or xs k x → is_kind copper (seen x).role ≡ false
-      → TakesThose a b (map seen xs) (λ i. ltb i k && of_kind i) → TakesThose a b (map seen xs) (λ i. ltb i (k + 1) && of_kind i)
+  pub kind_left : (a b : S) (k : ℕ) (x : X) → k < length xs → x ≡ get_or xs k x → is_kind copper (seen x).role ≡ false → Takes Has a b (λ i. ltb i k && of_kind i) → Takes Has a b (λ i. ltb i (k + 1) && of_kind i)
   kind_left a b k x lt is kind so_far =
-      takes_same a b (map seen xs) (λ i. ltb i k && of_kind i) (λ i. ltb i (k + 1) && of_kind i) (none_more of_kind k (ap (is_kind_of copper) (file_at k x lt is) ∙ kind)) so_far
+      takes_same Has a b (λ i. ltb i k && of_kind i) (λ i. ltb i (k + 1) && of_kind i) (none_more of_kind k (ap (is_kind_of copper) (file_at k x lt is) ∙ kind)) so_far
 
   -- all of them
-  pub kind_all : (a b : PackageReader) (k : ℕ) → length xs ≤ k → TakesThose a b (map seen xs) (λ i. ltb i k && of_kind i) → TakesThose a b (map seen xs) of_kind
+  pub kind_all : (a b : S) (k : ℕ) → length xs ≤ k → Takes Has a b (λ i. ltb i k && of_kind i) → Takes Has a b of_kind
   kind_all a b k le so_far =
-      takes_same a b (map seen xs) (λ i. ltb i k && of_kind i) of_kind (all_below of_kind k (λ i past. no_kind_past copper (map seen xs) i (omega (arith, length-map xs seen, le, past)))) so_far
+      takes_same Has a b (λ i. ltb i k && of_kind i) of_kind (all_below of_kind k (λ i past. no_kind_past copper (map seen xs) i (omega (arith, length-map xs seen, le, past)))) so_far
 
 -- ---- what is answered
 
@@ -374,7 +382,7 @@ module _ (reader : PackageReader) (keep : Keep) (sources : List FileView) (all :
 
     pub drawn_board_read : ReadingIsUniqueIn → keeps_drawn keep ≡ true → IsDrawnBoard sources board
     drawn_board_read once keeps = record {
-      is = flashed_board_read (flashes_too keep keeps);
+      is = flashed_board_read (rows_where_drawn keep keeps);
       drawn = subst (AreFileLists AreDrawnOf sources) (sym (ap (λ (b : BoardView). b.drawn) is))
           (all_lists keep AreDrawnOf (λ (one : Shown). one.drawn.items) (drawn_told keep once keeps) sources reader.slots.items all.holds.inside each_kept);
     }

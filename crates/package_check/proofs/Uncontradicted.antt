@@ -3,9 +3,7 @@ use Rattle.package_check.proofs.Common.{◌≡◌, ◌↔◌, ℕ, false, List, 
 use Rattle.drill_text.specs.Profiles as drills
 use Rattle.manifest.specs.declared.Role.TheVariants as role
 use Rattle.package_check.specs.declared.contents.Content.TheVariants as content
-
-same_list : {A : Type 0} {x y : A} → (let a : Result A Fault = Ok x in let b : Result A Fault = Ok y in a ≡ b) → x ≡ y
-same_list e = cc
+use Rattle.package_check.proofs.FlashReadingLemmas.{ok_same}
 
 module _ (texts : (text : List ℕ) (commands : List DrillCommand) → (drills.Reads text (Ok commands)) ↔ (IsDrillText text commands))
     (drills_too : (text : List ℕ) (commands : List DrillCommand) → drills.Reads text (Ok commands) → ReadsIn Wide text (Ok commands))
@@ -16,13 +14,10 @@ module _ (texts : (text : List ℕ) (commands : List DrillCommand) → (drills.R
       → q ≡ role.Unplated → (commands : List DrillCommand) → IsDrillText bytes commands → list_any calls_plated commands ≡ false
   silent role.Unplated name span bytes n (content.Drill p v d) h is commands text =
       let read = (same (unplated_in Wide) bytes h.0.0).0 h.0.1 in
-      let equal : commands ≡ h.0.0 = same_list (once Wide bytes (Ok commands) (Ok h.0.0) (drills_too bytes commands ((texts bytes commands).1 text)) read.0) in
+      let equal : commands ≡ h.0.0 = ok_same (once Wide bytes (Ok commands) (Ok h.0.0) (drills_too bytes commands ((texts bytes commands).1 text)) read.0) in
       ap (list_any calls_plated) equal ∙ (legal h.0.0).0 read.1
-  silent role.Unplated name span bytes n (content.Layer a) h is commands text = absurd h
-  silent role.Unplated name span bytes n (content.Mixed v d) h is commands text = absurd h
-  silent role.Copper name span bytes n c h is commands text = absurd cc
-  silent role.Plated name span bytes n c h is commands text = absurd cc
-  silent role.Mixed name span bytes n c h is commands text = absurd cc
+  silent role.Unplated name span bytes n c h is commands text = absurd h
+  silent q name span bytes n c h is commands text = absurd cc
 
   pub read_is_uncontradicted : ReadIsUncontradicted
   read_is_uncontradicted source c h is commands text = silent source.role source.name source.span source.bytes source.setting.layers c h.1 is commands text

@@ -1,5 +1,5 @@
 -- What the wide profile says of the files of a board that was read in the strict one.
-use Rattle.package_check.proofs.Common.{◌≡◌, inl, inr, ◌↔◌, ◌<◌, ◌+◌, ◌++◌, ◌||◌, ◌&&◌, ℕ, suc, Bool, true, false, not, List, [], ◌∷◌, Option, Result, Ok, Err, length, map, get_or, arith, refl, ap, ap₂, sym, subst, ◌∙◌, ⊤, option_map, or_cases, AllByRecursion, cons_option, enumerate_from, filter, flat_map, list_any, length-map, flat_map-cons, LayerSpan, Fault, GridRules, Profile, Strict, Wide, DrillCommand, calls_plated, IsDrillText, without_places, LayerImage, ReadingIsUniqueIn, ReadsLayerIn, StrictLayers, Feature, wide_pad_covers, WidePad, Role, finding_of, gap_findings, is_refused_slot, layer_findings, ring_findings, is_in_span, Drilled, Finding, DrillView, LayerView, HasContours, HasLayerView, HasMacros, FileView, BytesHaveContent, HaveContents, IsFirstRefused, IsReport, IsAnswer, AnswerExists, AreFileLists, BoardView, OfCopper, holes_of_all, index_of, is_copper, layers, pads_of, report_on, sum_of, ReportView, IsUncontradicted, ReadIsUncontradicted, WideFindsNoMore, read_in, Numbered, Content}
+use Rattle.package_check.proofs.Common.{◌≡◌, inl, inr, ◌↔◌, ◌<◌, ◌+◌, ◌++◌, ◌||◌, ◌&&◌, ℕ, suc, Bool, true, false, not, List, [], ◌∷◌, Option, Result, Ok, Err, length, map, get_or, arith, refl, ap, ap₂, sym, subst, ◌∙◌, ⊤, option_map, or_cases, AllByRecursion, cons_option, enumerate_from, filter, flat_map, list_any, length-map, flat_map-cons, LayerSpan, Fault, GridRules, Profile, Strict, Wide, DrillCommand, calls_plated, IsDrillText, without_places, LayerImage, ReadingIsUniqueIn, ReadsLayerIn, StrictLayers, Feature, wide_pad_covers, WidePad, Role, finding_of, gap_findings, is_refused_slot, layer_findings, ring_findings, is_in_span, Drilled, Finding, DrillView, LayerView, HasContours, HasLayerView, HasMacros, FileView, BytesHaveContent, HaveContents, IsFirstRefused, IsReport, IsAnswer, AnswerExists, AreFileLists, BoardView, OfCopper, holes_of_all, index_of, is_copper, layers, pads_of, report_on, sum_of, ReportView, IsUncontradicted, ReadIsUncontradicted, WideFindsNoMore, read_in, Numbered, Content, both_ways}
 use Rattle.drill_text.specs.Profiles as drills
 use Rattle.grid_units.specs.Points.{GridPoint}
 use Rattle.pad_shapes.specs.Holding.{covers_hole}
@@ -13,9 +13,7 @@ use Rattle.package_check.specs.declared.contents.Content.TheVariants as content
 use Rattle.package_check.specs.WiderProfile.{WideAnswersByBoard, is_called_plated, in_wide, layer_rings, wide_rings}
 use Rattle.package_check.proofs.Passing.{all_drilled}
 use Rattle.grid_units.proofs.BoolLemmas.{or_is_false}
-
-same_ok : {A : Type 0} {x y : A} → (let a : Result A Fault = Ok x in let b : Result A Fault = Ok y in a ≡ b) → x ≡ y
-same_ok e = cc
+use Rattle.package_check.proofs.FlashReadingLemmas.{ok_same}
 
 -- ---- the pads of a layer
 
@@ -61,14 +59,11 @@ any_pad test (f ∷ fs) = by f.at f.what (any_pad test fs)
     by at (kind.Pad (Plain pad)) rest = ap (λ (b : Bool). test (Plain pad) || b) rest ∙ first (test (Plain pad)) (of_plain test fs) (of_macros test fs) (of_contours test fs)
     by at (kind.Pad (Rounded pad)) rest = ap (λ (b : Bool). test (Rounded pad) || b) rest ∙ second (test (Rounded pad)) (of_plain test fs) (of_macros test fs) (of_contours test fs)
     by at (kind.Contour pad) rest = ap (λ (b : Bool). test (Rounded pad) || b) rest ∙ third (test (Rounded pad)) (of_plain test fs) (of_macros test fs) (of_contours test fs)
-    by at (kind.Other why) rest = rest
-    by at (kind.Macro why) rest = rest
-    by at kind.Clear rest = rest
-    by at kind.Cleared rest = rest
+    by at k rest = rest
 
 module _ (layers_too : StrictLayers) (once : ReadingIsUniqueIn) where
   same_image : (profile : Profile) (bytes : List ℕ) (i j : LayerImage) → ReadsLayerIn profile bytes (Ok i) → ReadsLayerIn profile bytes (Ok j) → i ≡ j
-  same_image profile bytes i j h k = same_ok (once profile bytes (Ok i) (Ok j) h k)
+  same_image profile bytes i j h k = ok_same (once profile bytes (Ok i) (Ok j) h k)
 
   -- the pads of a layer in the wide profile are its pads in the strict one, and those that this does not count
   all_of_layer : (bytes : List ℕ) (a b : LayerView) (macros contours : List WidePad) → HasLayerView Strict bytes a → HasLayerView Wide bytes b → HasMacros Strict bytes macros → HasContours Strict bytes contours
@@ -105,25 +100,14 @@ module _ (layers_too : StrictLayers) (once : ReadingIsUniqueIn) where
       → BytesHaveContent (record { role = q; name = name; span = span; bytes = bytes; setting = record { layers = n; profile = Wide } }) d
       → (is_copper q ≡ true → HasMacros Strict bytes macros) → (is_copper q ≡ true → HasContours Strict bytes contours) → Suit macros contours c d
   suit role.Copper name span bytes n macros contours (content.Layer a) (content.Layer b) h k ms cs = all_of_layer bytes a b macros contours h.0 k.0 (ms refl) (cs refl)
-  suit role.Copper name span bytes n macros contours (content.Layer a) (content.Drill q w e) h k ms cs = absurd k
-  suit role.Copper name span bytes n macros contours (content.Layer a) (content.Mixed w e) h k ms cs = absurd k
-  suit role.Copper name span bytes n macros contours (content.Drill p v d) other h k ms cs = absurd h
-  suit role.Copper name span bytes n macros contours (content.Mixed v d) other h k ms cs = absurd h
   suit role.Plated name span bytes n macros contours (content.Drill p v d) (content.Drill q w e) h k ms cs = tt
-  suit role.Plated name span bytes n macros contours (content.Drill p v d) (content.Layer b) h k ms cs = absurd k
-  suit role.Plated name span bytes n macros contours (content.Drill p v d) (content.Mixed w e) h k ms cs = absurd k
-  suit role.Plated name span bytes n macros contours (content.Layer a) other h k ms cs = absurd h
-  suit role.Plated name span bytes n macros contours (content.Mixed v d) other h k ms cs = absurd h
   suit role.Unplated name span bytes n macros contours (content.Drill p v d) (content.Drill q w e) h k ms cs = tt
-  suit role.Unplated name span bytes n macros contours (content.Drill p v d) (content.Layer b) h k ms cs = absurd k
-  suit role.Unplated name span bytes n macros contours (content.Drill p v d) (content.Mixed w e) h k ms cs = absurd k
-  suit role.Unplated name span bytes n macros contours (content.Layer a) other h k ms cs = absurd h
-  suit role.Unplated name span bytes n macros contours (content.Mixed v d) other h k ms cs = absurd h
   suit role.Mixed name span bytes n macros contours (content.Mixed v d) (content.Mixed w e) h k ms cs = tt
-  suit role.Mixed name span bytes n macros contours (content.Mixed v d) (content.Layer b) h k ms cs = absurd k
-  suit role.Mixed name span bytes n macros contours (content.Mixed v d) (content.Drill q w e) h k ms cs = absurd k
-  suit role.Mixed name span bytes n macros contours (content.Layer a) other h k ms cs = absurd h
-  suit role.Mixed name span bytes n macros contours (content.Drill p v d) other h k ms cs = absurd h
+  suit role.Copper name span bytes n macros contours (content.Layer a) other h k ms cs = absurd k
+  suit role.Plated name span bytes n macros contours (content.Drill p v d) other h k ms cs = absurd k
+  suit role.Unplated name span bytes n macros contours (content.Drill p v d) other h k ms cs = absurd k
+  suit role.Mixed name span bytes n macros contours (content.Mixed v d) other h k ms cs = absurd k
+  suit q name span bytes n macros contours one other h k ms cs = absurd h
 
   module _ (macros contours : ℕ → List WidePad) where
     -- so it is of each file, by its index
@@ -145,14 +129,13 @@ module _ (layers_too : StrictLayers) (once : ReadingIsUniqueIn) where
 
     suits : (k : ℕ) (ss : List FileView) (cs ds : List Content) → HaveContents (map (read_in Strict) ss) cs → HaveContents (map (read_in Wide) ss) ds → Have HasMacros macros k ss → Have HasContours contours k ss → Suits k cs ds
     suits k [] [] [] h w ms ks = tt
-    suits k [] [] (d ∷ ds) h w ms ks = absurd w
-    suits k [] (c ∷ cs) ds h w ms ks = absurd h
-    suits k (s ∷ ss) [] ds h w ms ks = absurd h
+    suits k [] [] ds h w ms ks = absurd w
     suits k (s ∷ ss) (c ∷ cs) [] h w ms ks = absurd w
     suits k (s ∷ ss) (c ∷ cs) (d ∷ ds) h w ms ks = (
       suit s.role s.name s.span s.bytes s.setting.layers (macros k) (contours k) c d h.0.1 w.0.1 (have_here HasMacros macros k s ss ms) (have_here HasContours contours k s ss ks),
       suits (k + 1) ss cs ds h.1 w.1 (have_later HasMacros macros k s ss ms) (have_later HasContours contours k s ss ks),
     )
+    suits k ss cs ds h w ms ks = absurd h
 
     -- ---- the findings
 
@@ -197,34 +180,22 @@ module _ (layers_too : StrictLayers) (once : ReadingIsUniqueIn) where
               ∙ sym (flat_map-cons by_file (l, k) (enumerate_from (l + 1) (flat_map index_of (enumerate_from (k + 1) cs)))))
           one (content.Drill p v d) (content.Drill q w e) alike rest there = rest l there
           one (content.Mixed v d) (content.Mixed w e) alike rest there = rest l there
-          one (content.Layer a) (content.Drill q w e) alike rest there = absurd alike
-          one (content.Layer a) (content.Mixed w e) alike rest there = absurd alike
-          one (content.Drill p v d) (content.Layer b) alike rest there = absurd alike
-          one (content.Drill p v d) (content.Mixed w e) alike rest there = absurd alike
-          one (content.Mixed v d) (content.Layer b) alike rest there = absurd alike
-          one (content.Mixed v d) (content.Drill q w e) alike rest there = absurd alike
+          one a b alike rest there = absurd alike
 
 -- ---- files that contradict their role
-
-not_both : (b : Bool) → b ≡ true → b ≡ false → ⊥
-not_both true e k = absurd cc
-not_both false e k = absurd cc
 
 module _ (texts : (text : List ℕ) (commands : List DrillCommand) → (drills.Reads text (Ok commands)) ↔ (IsDrillText text commands))
     (reads_once : (text : List ℕ) (a b : Result (List DrillCommand) Fault) → drills.Reads text a → drills.Reads text b → a ≡ b) where
   same_text : (text : List ℕ) (a b : List DrillCommand) → IsDrillText text a → IsDrillText text b → a ≡ b
-  same_text text a b h k = same_ok (reads_once text (Ok a) (Ok b) ((texts text a).1 h) ((texts text b).1 k))
+  same_text text a b h k = ok_same (reads_once text (Ok a) (Ok b) ((texts text a).1 h) ((texts text b).1 k))
 
   silent : (q : Role) (name : List ℕ) (span : Option LayerSpan) (bytes : List ℕ) (n : ℕ) (c : Content) → BytesHaveContent (record { role = q; name = name; span = span; bytes = bytes; setting = record { layers = n; profile = Strict } }) c
       → is_called_plated (sum_of c) ≡ false → q ≡ role.Unplated → (commands : List DrillCommand) → IsDrillText bytes commands → list_any calls_plated commands ≡ false
   silent role.Unplated name span bytes n (content.Drill p v d) h none is commands text =
       let said : d.contradicted ≡ list_any calls_plated h.0.0 = ap (λ (view : DrillView). view.contradicted) h.0.2 in
       ap (list_any calls_plated) (same_text bytes commands h.0.0 text h.0.1) ∙ (sym said ∙ (sym (ap (λ (b : Bool). not b && d.contradicted) h.1) ∙ none))
-  silent role.Unplated name span bytes n (content.Layer a) h none is commands text = absurd h
-  silent role.Unplated name span bytes n (content.Mixed v d) h none is commands text = absurd h
-  silent role.Copper name span bytes n c h none is commands text = absurd cc
-  silent role.Plated name span bytes n c h none is commands text = absurd cc
-  silent role.Mixed name span bytes n c h none is commands text = absurd cc
+  silent role.Unplated name span bytes n c h none is commands text = absurd h
+  silent q name span bytes n c h none is commands text = absurd cc
 
   all_silent : (ss : List FileView) (cs : List Content) → HaveContents (map (read_in Strict) ss) cs → list_any is_called_plated (map sum_of cs) ≡ false → AllByRecursion IsUncontradicted ss
   all_silent [] cs h none = tt
@@ -238,22 +209,15 @@ module _ (texts : (text : List ℕ) (commands : List DrillCommand) → (drills.R
       → is_called_plated (sum_of c) ≡ true → (q ≡ role.Unplated → (commands : List DrillCommand) → IsDrillText bytes commands → list_any calls_plated commands ≡ false) → ⊥
   not_silent role.Unplated name span bytes n (content.Drill p v d) h some free =
       let said : d.contradicted ≡ list_any calls_plated h.0.0 = ap (λ (view : DrillView). view.contradicted) h.0.2 in
-      not_both d.contradicted (sym (ap (λ (b : Bool). not b && d.contradicted) h.1) ∙ some) (said ∙ free refl h.0.0 h.0.1)
-  not_silent role.Unplated name span bytes n (content.Layer a) h some free = absurd h
-  not_silent role.Unplated name span bytes n (content.Mixed v d) h some free = absurd h
-  not_silent role.Plated name span bytes n (content.Drill p v d) h some free = not_both false (sym (ap (λ (b : Bool). not b && d.contradicted) h.1) ∙ some) refl
-  not_silent role.Plated name span bytes n (content.Layer a) h some free = absurd h
-  not_silent role.Plated name span bytes n (content.Mixed v d) h some free = absurd h
-  not_silent role.Copper name span bytes n (content.Layer a) h some free = not_both false some refl
-  not_silent role.Copper name span bytes n (content.Drill p v d) h some free = absurd h
-  not_silent role.Copper name span bytes n (content.Mixed v d) h some free = absurd h
-  not_silent role.Mixed name span bytes n (content.Mixed v d) h some free = not_both false some refl
-  not_silent role.Mixed name span bytes n (content.Layer a) h some free = absurd h
-  not_silent role.Mixed name span bytes n (content.Drill p v d) h some free = absurd h
+      both_ways d.contradicted (said ∙ free refl h.0.0 h.0.1) (sym (ap (λ (b : Bool). not b && d.contradicted) h.1) ∙ some)
+  not_silent role.Plated name span bytes n (content.Drill p v d) h some free = both_ways false refl (sym (ap (λ (b : Bool). not b && d.contradicted) h.1) ∙ some)
+  not_silent role.Copper name span bytes n (content.Layer a) h some free = both_ways false refl some
+  not_silent role.Mixed name span bytes n (content.Mixed v d) h some free = both_ways false refl some
+  not_silent q name span bytes n c h some free = absurd h
 
   -- so the wide profile does not read them all
   not_read : ReadIsUncontradicted → (ss : List FileView) (cs ds : List Content) → HaveContents (map (read_in Strict) ss) cs → HaveContents (map (read_in Wide) ss) ds → list_any is_called_plated (map sum_of cs) ≡ true → ⊥
-  not_read free [] [] ds h w some = not_both false some refl
+  not_read free [] [] ds h w some = both_ways false refl some
   not_read free [] (c ∷ cs) ds h w some = absurd h
   not_read free (s ∷ ss) [] ds h w some = absurd h
   not_read free (s ∷ ss) (c ∷ cs) [] h w some = absurd w

@@ -1,5 +1,5 @@
 -- What files say in the strict profile, they say in the wide one, with further pads.
-use Rattle.package_check.proofs.Common.{◌≡◌, ◌⊎◌, inl, inr, ◌↔◌, ◌<◌, ◌+◌, ◌++◌, ℕ, zero, suc, Bool, true, false, List, [], ◌∷◌, Option, Ok, length, map, get_or, arith, refl, ap, ap₂, sym, subst, ◌∙◌, ⊤, option_map, AllByRecursion, Contains, cons_option, enumerate_from, filter, flat_map, list_any, flat_map-cons, Contains-append_cases, Contains-append_left, LayerSpan, Strict, Wide, DrillCommand, calls_plated, ReadsBy, ReadsIn, mixed_in, unplated_in, IsDrillText, without_places, StrictLayers, Feature, wide_pad_covers, WidePad, Role, gap_findings, ring_findings, Finding, DrillView, LayerView, HasLayerView, ReadsDrill, layer_view, FileView, BytesHaveContent, HaveContents, holes_of_all, holes_of, index_of, layers, numbered_holes, pads_of, report_on, FindsNoMore, IsUncontradicted, WideFindsNoMore, is_gap, read_in, Numbered, Content}
+use Rattle.package_check.proofs.Common.{◌≡◌, ◌⊎◌, inl, inr, ◌↔◌, ◌<◌, ◌+◌, ◌++◌, ℕ, zero, suc, Bool, true, false, List, [], ◌∷◌, Option, Ok, length, map, get_or, arith, refl, ap, ap₂, sym, subst, ◌∙◌, ⊤, option_map, AllByRecursion, Contains, cons_option, enumerate_from, filter, flat_map, list_any, flat_map-cons, Contains-append_cases, Contains-append_left, LayerSpan, Strict, Wide, DrillCommand, calls_plated, ReadsBy, ReadsIn, mixed_in, unplated_in, IsDrillText, without_places, StrictLayers, Feature, wide_pad_covers, WidePad, Role, gap_findings, ring_findings, Finding, DrillView, LayerView, HasLayerView, ReadsDrill, layer_view, FileView, BytesHaveContent, HaveContents, holes_of_all, holes_of, index_of, layers, numbered_holes, pads_of, report_on, FindsNoMore, IsUncontradicted, WideFindsNoMore, is_gap, read_in, Numbered, Content, both_ways}
 use Rattle.drill_text.specs.Profiles as drills
 use Rattle.grid_units.specs.Points.{GridPoint}
 use Rattle.layer_features.specs.declared.feature.FeatureKind.{FeatureKind}
@@ -29,28 +29,19 @@ strict_among (f ∷ fs) w = by f.at f.what (strict_among fs w)
     ]
     by at (kind.Pad (Rounded pad)) rest h = later w (Rounded pad) (feature_pads fs) (rest h)
     by at (kind.Contour pad) rest h = later w (Rounded pad) (feature_pads fs) (rest h)
-    by at (kind.Other why) rest h = rest h
-    by at (kind.Macro why) rest h = rest h
-    by at kind.Clear rest h = rest h
-    by at kind.Cleared rest h = rest h
+    by at k rest h = rest h
 
 -- a content has all that another has, and may have further pads
 abbrev IsWider : Content → Content → Type 0
 IsWider (content.Layer a) (content.Layer b) = (w : WidePad) → Contains a.pads w → Contains b.pads w
 IsWider (content.Drill p v d) (content.Drill q w e) = content.Drill p v d ≡ content.Drill q w e
 IsWider (content.Mixed v d) (content.Mixed w e) = content.Mixed v d ≡ content.Mixed w e
-IsWider (content.Mixed v d) (content.Layer b) = ⊥
-IsWider (content.Mixed v d) (content.Drill q w e) = ⊥
-IsWider (content.Layer a) (content.Mixed w e) = ⊥
-IsWider (content.Drill p v d) (content.Mixed w e) = ⊥
-IsWider (content.Layer a) (content.Drill q w e) = ⊥
-IsWider (content.Drill p v d) (content.Layer b) = ⊥
+IsWider _ _ = ⊥
 
 abbrev AreWider : List Content → List Content → Type 0
 AreWider [] [] = ⊤
-AreWider [] (d ∷ ds) = ⊥
-AreWider (c ∷ cs) [] = ⊥
 AreWider (c ∷ cs) (d ∷ ds) = IsWider c d × AreWider cs ds
+AreWider _ _ = ⊥
 
 module _ (layers_too : StrictLayers) (texts : (text : List ℕ) (commands : List DrillCommand) → (drills.Reads text (Ok commands)) ↔ (IsDrillText text commands))
     (drills_too : (text : List ℕ) (commands : List DrillCommand) → drills.Reads text (Ok commands) → ReadsIn Wide text (Ok commands))
@@ -79,26 +70,18 @@ module _ (layers_too : StrictLayers) (texts : (text : List ℕ) (commands : List
       → BytesHaveContent (record { role = q; name = name; span = span; bytes = bytes; setting = record { layers = n; profile = Strict } }) c
       → (d : Content) × BytesHaveContent (record { role = q; name = name; span = span; bytes = bytes; setting = record { layers = n; profile = Wide } }) d × IsWider c d
   wider_file role.Copper name span bytes n (content.Layer a) silent h = let more = wider_layer bytes a h.0 in (content.Layer more.0, (more.1, more.2 ∙ h.1), more.3)
-  wider_file role.Copper name span bytes n (content.Drill p v d) silent h = absurd h
-  wider_file role.Copper name span bytes n (content.Mixed v d) silent h = absurd h
-  wider_file role.Plated name span bytes n (content.Mixed v d) silent h = absurd h
-  wider_file role.Unplated name span bytes n (content.Mixed v d) silent h = absurd h
-  wider_file role.Mixed name span bytes n (content.Layer a) silent h = absurd h
-  wider_file role.Mixed name span bytes n (content.Drill p v d) silent h = absurd h
   wider_file role.Mixed name span bytes n (content.Mixed v d) silent h = (content.Mixed v d, ((h.0.0, mixed_too bytes h.0.0 h.0.1, h.0.2), h.1), refl)
-  wider_file role.Plated name span bytes n (content.Layer a) silent h = absurd h
   wider_file role.Plated name span bytes n (content.Drill p v d) silent h = (content.Drill p v d, (wider_drill bytes d h.0, h.1, h.2), refl)
-  wider_file role.Unplated name span bytes n (content.Layer a) silent h = absurd h
   wider_file role.Unplated name span bytes n (content.Drill p v d) silent h = (content.Drill p v d, (wider_unplated bytes d (silent refl) h.0, h.1, h.2), refl)
+  wider_file q name span bytes n c silent h = absurd h
 
   wider_files : (sources : List FileView) (cs : List Content) → HaveContents (map (read_in Strict) sources) cs → AllByRecursion IsUncontradicted sources → (ds : List Content) × HaveContents (map (read_in Wide) sources) ds × AreWider cs ds
   wider_files [] [] h silent = ([], tt, tt)
-  wider_files [] (c ∷ cs) h silent = absurd h
-  wider_files (s ∷ ss) [] h silent = absurd h
   wider_files (s ∷ ss) (c ∷ cs) h silent =
       let one = wider_file s.role s.name s.span s.bytes s.setting.layers c silent.0 h.0.1 in
       let rest = wider_files ss cs h.1 silent.1 in
       (one.0 ∷ rest.0, ((h.0.0, one.1), rest.1), (one.2, rest.2))
+  wider_files ss cs h silent = absurd h
 
 -- ---- what wider contents have
 
@@ -106,31 +89,20 @@ same_holes : (n : ℕ) (c d : Content) → IsWider c d → holes_of (n, d) ≡ h
 same_holes n (content.Layer a) (content.Layer b) h = refl
 same_holes n (content.Drill p v d) (content.Drill q w e) h = ap (λ (one : Content). holes_of (n, one)) (sym h)
 same_holes n (content.Mixed v d) (content.Mixed w e) h = ap (λ (one : Content). holes_of (n, one)) (sym h)
-same_holes n (content.Mixed v d) (content.Layer b) h = absurd h
-same_holes n (content.Mixed v d) (content.Drill q w e) h = absurd h
-same_holes n (content.Layer a) (content.Mixed w e) h = absurd h
-same_holes n (content.Drill p v d) (content.Mixed w e) h = absurd h
-same_holes n (content.Layer a) (content.Drill q w e) h = absurd h
-same_holes n (content.Drill p v d) (content.Layer b) h = absurd h
+same_holes n c d h = absurd h
 
 same_index : (n : ℕ) (c d : Content) → IsWider c d → index_of (n, d) ≡ index_of (n, c)
 same_index n (content.Layer a) (content.Layer b) h = refl
 same_index n (content.Drill p v d) (content.Drill q w e) h = refl
 same_index n (content.Mixed v d) (content.Mixed w e) h = refl
-same_index n (content.Mixed v d) (content.Layer b) h = absurd h
-same_index n (content.Mixed v d) (content.Drill q w e) h = absurd h
-same_index n (content.Layer a) (content.Mixed w e) h = absurd h
-same_index n (content.Drill p v d) (content.Mixed w e) h = absurd h
-same_index n (content.Layer a) (content.Drill q w e) h = absurd h
-same_index n (content.Drill p v d) (content.Layer b) h = absurd h
+same_index n c d h = absurd h
 
 same_over : {Y : Type 0} (f : ℕ × Content → List Y) → ((n : ℕ) (c d : Content) → IsWider c d → f (n, d) ≡ f (n, c)) → (n : ℕ) (cs ds : List Content) → AreWider cs ds → flat_map f (enumerate_from n ds) ≡ flat_map f (enumerate_from n cs)
 same_over f one n [] [] h = refl
-same_over f one n [] (d ∷ ds) h = absurd h
-same_over f one n (c ∷ cs) [] h = absurd h
 same_over {Y} f one n (c ∷ cs) (d ∷ ds) h =
     flat_map-cons f (n, d) (enumerate_from (n + 1) ds)
     ∙ (ap₂ (λ (xs ys : List Y). xs ++ ys) (one n c d h.0) (same_over f one (n + 1) cs ds h.1) ∙ sym (flat_map-cons f (n, c) (enumerate_from (n + 1) cs)))
+same_over f one n cs ds h = absurd h
 
 -- the pads of each layer are among those of the same layer
 wider_pads : (cs ds : List Content) → AreWider cs ds → (length (layers cs) ≡ length (layers ds)) × ((l : ℕ) (w : WidePad) → l < length (layers cs) → Contains (get_or (layers cs) l []) w → Contains (get_or (layers ds) l []) w)
@@ -152,12 +124,7 @@ wider_pads (c ∷ cs) (d ∷ ds) h =
         by one rest (suc l) w lt among = rest l w (omega arith) among
     first (content.Drill p v e) (content.Drill q w g) one rest = rest
     first (content.Mixed v e) (content.Mixed w g) one rest = rest
-    first (content.Mixed v e) (content.Layer b) one rest = absurd one
-    first (content.Mixed v e) (content.Drill q w g) one rest = absurd one
-    first (content.Layer a) (content.Mixed w g) one rest = absurd one
-    first (content.Drill p v e) (content.Mixed w g) one rest = absurd one
-    first (content.Layer a) (content.Drill q w g) one rest = absurd one
-    first (content.Drill p v e) (content.Layer b) one rest = absurd one
+    first a b one rest = absurd one
 
 -- ---- the reports
 
@@ -180,16 +147,12 @@ module _ (rings_no_more : RingsFindNoMore {S = WidePad} {W = WidePad} wide_pad_c
   beside f g (inl a) = inl (f a)
   beside f g (inr c) = inr (g c)
 
-  no_gap : (t : Bool) → t ≡ true → t ≡ false → ⊥
-  no_gap true e k = absurd cc
-  no_gap false e k = absurd cc
-
   among_rings : (f : Finding) → is_gap f ≡ false → Contains (wide_rings ++ gap_findings gap (holes_of_all cs)) f → Contains wide_rings f
   among_rings f other c = by (Contains-append_cases wide_rings (gap_findings gap (holes_of_all cs)) f c)
     where
       by : Contains wide_rings f ⊎ Contains (gap_findings gap (holes_of_all cs)) f → Contains wide_rings f
       by (inl here) = here
-      by (inr there) = absurd (no_gap (is_gap f) (is_among true (gap_findings gap (holes_of_all cs)) f (gaps_are gap (holes_of_all cs)) there) other)
+      by (inr there) = absurd (both_ways (is_gap f) other (is_among true (gap_findings gap (holes_of_all cs)) f (gaps_are gap (holes_of_all cs)) there))
 
   pub finds_no_more : FindsNoMore (report_on (record { ring = ring; gap = gap; profile = Wide }) ds) (report_on (record { ring = ring; gap = gap; profile = Strict }) cs)
   finds_no_more =

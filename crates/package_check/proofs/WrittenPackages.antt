@@ -23,10 +23,7 @@ use Rattle.package_check.specs.declared.contents.Content.TheVariants as content
 
 run_of : (copper : Bool) (a b c : Bool) → (copper || not (a && (b && c))) ≡ false → (a ≡ true) × (b ≡ true) × (c ≡ true)
 run_of false true true true e = (refl, refl, refl)
-run_of true a b c e = absurd cc
-run_of false false b c e = absurd cc
-run_of false true false c e = absurd cc
-run_of false true true false e = absurd cc
+run_of copper a b c e = absurd cc
 
 -- a span that is not bad is a run of the copper files
 good_run : (q : Role) (span : Option LayerSpan) (n : ℕ) → is_bad_span q span n ≡ false → IsRun n span
@@ -46,19 +43,13 @@ no_span (Some s) n e = absurd cc
 abbrev holes_by_file : List Content → List (List Drilled)
 holes_by_file [] = []
 holes_by_file (content.Layer image ∷ cs) = holes_by_file cs
-holes_by_file (content.Drill plated span drill ∷ cs) = drilled_in (content.Drill plated span drill) ∷ holes_by_file cs
-holes_by_file (content.Mixed span holes ∷ cs) = holes ∷ holes_by_file cs
+holes_by_file (c ∷ cs) = drilled_in c ∷ holes_by_file cs
 
 holes_joined : (cs : List Content) → flat_map (λ (one : List Drilled). one) (holes_by_file cs) ≡ flat_map drilled_in cs
 holes_joined [] = refl
 holes_joined (content.Layer image ∷ cs) = holes_joined cs ∙ sym (flat_map-cons drilled_in (content.Layer image) cs)
-holes_joined (content.Drill plated span drill ∷ cs) =
-    let first = drilled_in (content.Drill plated span drill) in
-    flat_map-cons (λ (one : List Drilled). one) first (holes_by_file cs)
-    ∙ (ap (λ (ds : List Drilled). first ++ ds) (holes_joined cs) ∙ sym (flat_map-cons drilled_in (content.Drill plated span drill) cs))
-holes_joined (content.Mixed span holes ∷ cs) =
-    flat_map-cons (λ (one : List Drilled). one) holes (holes_by_file cs)
-    ∙ (ap (λ (ds : List Drilled). holes ++ ds) (holes_joined cs) ∙ sym (flat_map-cons drilled_in (content.Mixed span holes) cs))
+holes_joined (c ∷ cs) =
+    flat_map-cons (λ (one : List Drilled). one) (drilled_in c) (holes_by_file cs) ∙ (ap (λ (ds : List Drilled). drilled_in c ++ ds) (holes_joined cs) ∙ sym (flat_map-cons drilled_in c cs))
 
 -- the hole of an element of a file's holes is among its holes
 pub hole_among : (plated : Bool) (span : Option LayerSpan) (holes : List GridHole) (d : Drilled) → Contains (map (λ (hole : GridHole). let one : Drilled = record { hole = hole; plated = plated; span = span } in one) holes) d
@@ -167,51 +158,35 @@ module _ (texts : SpelledTextsAreWrittenIn) (layer_pads : LayerPads) (wide_pads 
       → AllZip SaysPads (filter (λ s. is_copper s.role) (record { role = q; name = name; span = span; bytes = bytes; setting = n } ∷ ss)) (pads_of c ++ rest)
   one_more_layer role.Copper name span bytes n (content.Layer image) ss rest h all =
       (says_pads (record { role = role.Copper; name = name; span = span; bytes = bytes; setting = n }) image h.1.0 h.1.1 (no_span span n.layers h.0), all)
-  one_more_layer role.Copper name span bytes n (content.Drill plated through drill) ss rest h all = absurd h.1
-  one_more_layer role.Copper name span bytes n (content.Mixed through holes) ss rest h all = absurd h.1
-  one_more_layer role.Plated name span bytes n (content.Layer image) ss rest h all = absurd h.1
   one_more_layer role.Plated name span bytes n (content.Drill plated through drill) ss rest h all = all
-  one_more_layer role.Plated name span bytes n (content.Mixed through holes) ss rest h all = absurd h.1
-  one_more_layer role.Unplated name span bytes n (content.Layer image) ss rest h all = absurd h.1
   one_more_layer role.Unplated name span bytes n (content.Drill plated through drill) ss rest h all = all
-  one_more_layer role.Unplated name span bytes n (content.Mixed through holes) ss rest h all = absurd h.1
-  one_more_layer role.Mixed name span bytes n (content.Layer image) ss rest h all = absurd h.1
-  one_more_layer role.Mixed name span bytes n (content.Drill plated through drill) ss rest h all = absurd h.1
   one_more_layer role.Mixed name span bytes n (content.Mixed through holes) ss rest h all = all
+  one_more_layer q name span bytes n c ss rest h all = absurd h.1
 
   one_more_drill : (q : Role) (name : List ℕ) (span : Option LayerSpan) (bytes : List ℕ) (n : Setting) (c : Content) (ss : List FileView) (cs : List Content)
       → HasContent (record { role = q; name = name; span = span; bytes = bytes; setting = n }) c → AllZip SaysHoles (filter (λ s. not (is_copper s.role)) ss) (holes_by_file cs)
       → AllZip SaysHoles (filter (λ s. not (is_copper s.role)) (record { role = q; name = name; span = span; bytes = bytes; setting = n } ∷ ss)) (holes_by_file (c ∷ cs))
   one_more_drill role.Copper name span bytes n (content.Layer image) ss cs h all = all
-  one_more_drill role.Copper name span bytes n (content.Drill plated through drill) ss cs h all = absurd h.1
-  one_more_drill role.Copper name span bytes n (content.Mixed through holes) ss cs h all = absurd h.1
-  one_more_drill role.Plated name span bytes n (content.Layer image) ss cs h all = absurd h.1
   one_more_drill role.Plated name span bytes n (content.Drill plated through drill) ss cs h all =
       (says_holes (record { role = role.Plated; name = name; span = span; bytes = bytes; setting = n }) true plated through drill h.1 (λ commands drilled is. is) (good_run role.Plated span n.layers h.0), all)
-  one_more_drill role.Plated name span bytes n (content.Mixed through holes) ss cs h all = absurd h.1
-  one_more_drill role.Unplated name span bytes n (content.Layer image) ss cs h all = absurd h.1
   one_more_drill role.Unplated name span bytes n (content.Drill plated through drill) ss cs h all =
       (says_holes (record { role = role.Unplated; name = name; span = span; bytes = bytes; setting = n }) false plated through drill h.1 (λ commands drilled is. is) (good_run role.Unplated span n.layers h.0), all)
-  one_more_drill role.Unplated name span bytes n (content.Mixed through holes) ss cs h all = absurd h.1
-  one_more_drill role.Mixed name span bytes n (content.Layer image) ss cs h all = absurd h.1
-  one_more_drill role.Mixed name span bytes n (content.Drill plated through drill) ss cs h all = absurd h.1
   one_more_drill role.Mixed name span bytes n (content.Mixed through holes) ss cs h all = (says_mixed name span bytes n through holes h.1 (good_run role.Mixed span n.layers h.0), all)
+  one_more_drill q name span bytes n c ss cs h all = absurd h.1
 
   -- ---- all files
 
   all_layers : (ss : List FileView) (cs : List Content) → HaveContents ss cs → AllZip SaysPads (filter (λ s. is_copper s.role) ss) (layers cs)
   all_layers [] [] h = tt
-  all_layers [] (c ∷ cs) h = absurd h
-  all_layers (s ∷ ss) [] h = absurd h
   all_layers (s ∷ ss) (c ∷ cs) h =
       subst (λ (ls : List (List WidePad)). AllZip SaysPads (filter (λ (f : FileView). is_copper f.role) (s ∷ ss)) ls) (sym (flat_map-cons pads_of c cs))
       (one_more_layer s.role s.name s.span s.bytes s.setting c ss (layers cs) h.0 (all_layers ss cs h.1))
+  all_layers ss cs h = absurd h
 
   all_drills : (ss : List FileView) (cs : List Content) → HaveContents ss cs → AllZip SaysHoles (filter (λ s. not (is_copper s.role)) ss) (holes_by_file cs)
   all_drills [] [] h = tt
-  all_drills [] (c ∷ cs) h = absurd h
-  all_drills (s ∷ ss) [] h = absurd h
   all_drills (s ∷ ss) (c ∷ cs) h = one_more_drill s.role s.name s.span s.bytes s.setting c ss cs h.0 (all_drills ss cs h.1)
+  all_drills ss cs h = absurd h
 
   pub sound_as_read_is_sound : SoundAsReadIsSound
   sound_as_read_is_sound sources rules sound =

@@ -13,9 +13,8 @@ ReadAlike x y = (answer : Result Content Fault) → Reads x answer ↔ Reads y a
 -- two lists of files say the same, file by file
 abbrev pub AllReadAlike : List FileView → List FileView → Type 0
 AllReadAlike [] [] = ⊤
-AllReadAlike [] (y ∷ ys) = ⊥
-AllReadAlike (x ∷ xs) [] = ⊥
 AllReadAlike (x ∷ xs) (y ∷ ys) = ReadAlike x y × AllReadAlike xs ys
+AllReadAlike _ _ = ⊥
 
 -- packages whose files say the same have the same answer
 abbrev pub SameAnswers : Type 0

@@ -33,8 +33,7 @@ pub record HasTriedPadsOf (holes : HolesView) (layer : ℕ) (reader : LayerReade
 -- the findings of rings on the layer of a file with this content, by the layer's number from 0; a drill file has none
 abbrev pub rings_of : GridRules → List Drilled → ℕ → Content → List Finding
 rings_of rules holes layer (content.Layer image) = layer_findings wide_pad_covers rules.profile rules.ring holes layer image.pads
-rings_of rules holes layer (content.Drill plated span drill) = []
-rings_of rules holes layer (content.Mixed span drilled) = []
+rings_of rules holes layer _ = []
 
 -- what is left of a file with this content: its counts, and the findings of rings on its layer
 pub record IsLeftOf (rules : GridRules) (holes : List Drilled) (layer : ℕ) (content : Content) (one : Judged) : Type 0 where

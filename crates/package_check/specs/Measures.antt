@@ -34,12 +34,10 @@ AnswersMeasure profile sources (Err (stop.File index fault)) = IsFirstRefused so
 
 -- a package has a measure just where a check reports on it, and is refused just as by a check, unless memory runs out
 abbrev pub RefusesAlike : Result ReportView (ℕ × Fault) → Result Measure PackageFault → Type 0
+RefusesAlike answer (Err stop.Memory) = ⊤
 RefusesAlike (Ok report) (Ok measure) = ⊤
-RefusesAlike (Err refusal) (Ok measure) = ⊥
-RefusesAlike (Ok report) (Err stop.Memory) = ⊤
-RefusesAlike (Err refusal) (Err stop.Memory) = ⊤
-RefusesAlike (Ok report) (Err (stop.File index fault)) = ⊥
 RefusesAlike (Err refusal) (Err (stop.File index fault)) = refusal ≡ (index, fault)
+RefusesAlike _ _ = ⊥
 
 -- in each profile a package whose files can all be read passes under just the rules that its board meets
 abbrev pub MeasuredPasses : Type 0

@@ -41,9 +41,7 @@ HasFailed of span setting (fails.Refused fault) text = (more : List ℕ) → Rea
 -- what is kept of a copper file of a package, of which no commands are kept: pads alone in place of a whole layer
 abbrev pub copper_keep : Keep → Keep
 copper_keep keeps.Layer = keeps.Pads
-copper_keep keeps.Pads = keeps.Pads
-copper_keep keeps.Rows = keeps.Rows
-copper_keep keeps.RowsAndDrawn = keeps.RowsAndDrawn
+copper_keep keep = keep
 
 -- a reader of a copper file in this profile, of which this is kept, has read this text, which shows no fault
 abbrev pub CopperStandsIn : LayerReader → Profile → Keep → List ℕ → Type 0

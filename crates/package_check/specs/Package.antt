@@ -85,20 +85,17 @@ not_copper = record { place = 0; byte = 0; reason = reason.NotCopper }
 -- the bytes of a copper file are the text of a copper layer with this content
 abbrev pub HasCopperContent : Profile → List ℕ → Content → Type 0
 HasCopperContent profile bytes (content.Layer image) = HasLayerView profile bytes image × (image.is_copper ≡ true)
-HasCopperContent profile bytes (content.Drill plated span drill) = ⊥
-HasCopperContent profile bytes (content.Mixed span holes) = ⊥
+HasCopperContent profile bytes _ = ⊥
 
 -- this is what the check keeps of the bytes of a drill file, and the content has its plating and its span
 abbrev pub HasDrillContent : Profile → Bool → Option LayerSpan → List ℕ → Content → Type 0
-HasDrillContent profile plated span bytes (content.Layer image) = ⊥
 HasDrillContent profile plated span bytes (content.Drill has through drill) = ReadsDrill profile plated bytes (Ok drill) × (has ≡ plated) × (through ≡ span)
-HasDrillContent profile plated span bytes (content.Mixed through holes) = ⊥
+HasDrillContent profile plated span bytes _ = ⊥
 
 -- the bytes of a mixed drill file drill just these holes, each plated as its tool is called, and the content has its span
 abbrev pub HasMixedContent : Profile → Option LayerSpan → List ℕ → Content → Type 0
-HasMixedContent profile span bytes (content.Layer image) = ⊥
-HasMixedContent profile span bytes (content.Drill has through drill) = ⊥
 HasMixedContent profile span bytes (content.Mixed through holes) = ReadsMixed profile span bytes (Ok holes) × (through ≡ span)
+HasMixedContent profile span bytes _ = ⊥
 
 -- the bytes of a file have this content, as they are read by its role
 abbrev pub BytesHaveContent : FileView → Content → Type 0
@@ -116,9 +113,8 @@ HasContent source content = (is_bad_span source.role source.span source.setting.
 -- the files have these contents, one by one
 abbrev pub HaveContents : List FileView → List Content → Type 0
 HaveContents [] [] = ⊤
-HaveContents [] (content ∷ contents) = ⊥
-HaveContents (source ∷ sources) [] = ⊥
 HaveContents (source ∷ sources) (content ∷ contents) = HasContent source content × HaveContents sources contents
+HaveContents _ _ = ⊥
 
 -- a copper file has this content or this fault: that of its text, or NotCopper where its layer is not copper
 abbrev pub ReadsCopper : Profile → List ℕ → Result Content Fault → Type 0
@@ -163,8 +159,7 @@ sum_of (content.Mixed span holes) = sum.Mixed span (count_by (λ one. is_round o
 -- the pads of a copper file, as a list of one; none for a drill file
 abbrev pub pads_of : Content → List (List WidePad)
 pads_of (content.Layer image) = image.pads ∷ []
-pads_of (content.Drill plated span drill) = []
-pads_of (content.Mixed span holes) = []
+pads_of _ = []
 
 -- the pads of each copper file, in the order of the files
 abbrev pub layers : List Content → List (List WidePad)
@@ -173,8 +168,7 @@ layers contents = flat_map pads_of contents
 -- the index of a copper file, as a list of one; none for a drill file
 abbrev pub index_of : ℕ × Content → List ℕ
 index_of (file, content.Layer image) = file ∷ []
-index_of (file, content.Drill plated span drill) = []
-index_of (file, content.Mixed span holes) = []
+index_of (file, _) = []
 
 -- the indexes of the copper files among all files, from 0
 abbrev pub layer_indexes : List Content → List ℕ

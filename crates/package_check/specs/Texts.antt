@@ -63,9 +63,8 @@ file_line profile n name (sum.Mixed span round slots unplated) = drill_words n (
 
 -- the lines of the files, numbered from n on
 unfoldable pub file_lines : Profile → ℕ → List (List ℕ) → List FileSum → List ℕ
-file_lines profile n [] sums = []
-file_lines profile n (name ∷ names) [] = []
 file_lines profile n (name ∷ names) (one ∷ sums) = file_line profile n name one ++ file_lines profile (n + 1) names sums
+file_lines profile n _ _ = []
 
 -- the place of a lacking ring, by file numbers from 1 and the hole's number: `RING layer=1 drill=2 hole=1`
 unfoldable pub place_words : List ℕ → ℕ → ℕ → ℕ → List ℕ

@@ -171,10 +171,10 @@ fn add_slot(
 pub(crate) fn board_of(alloc: Global, slots: Vec<Option<Kept>>) -> Result<Board, AllocError>
     ensures { IfOk result (λ board. board ≡ shown_board (flat_map contents_in slots.items) (flat_map shown_in slots.items)) }
 {
-    let mut files = Vec::with_capacity(alloc, slots.len())?;
-    let mut layers = Vec::new(alloc);
     let mut holes = Vec::with_capacity(alloc, hole_total(&slots))?;
-    let mut shown = Vec::with_capacity(alloc, slots.len())?;
+    let mut files = Vec::new(alloc);
+    let mut layers = Vec::new(alloc);
+    let mut shown = Vec::new(alloc);
     for slot in slots {
         add_slot(&mut files, &mut layers, &mut holes, &mut shown, slot)?;
     }

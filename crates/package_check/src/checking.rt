@@ -97,7 +97,7 @@ impl PackageReader {
         ensures layers { IfOk result (λ check. check.layers ≡ (reader_setting self).layers) }
     {
         let mut drilled = Vec::with_capacity(self.alloc, hole_total(&self.slots))?;
-        let mut slots = Vec::with_capacity(self.alloc, self.slots.len())?;
+        let mut slots = Vec::new(self.alloc);
         for slot in self.slots {
             let added = add_drill(self.alloc, &slot, &mut drilled, &mut slots);
             // Each file's own list of holes is freed once it is appended, by a call: the proof need not go through its parts.
@@ -290,7 +290,7 @@ fn report_on_slots(
 {
     let rules = holes.rules();
     let (holes, gaps) = holes.into_gaps(alloc)?;
-    let mut files = Vec::with_capacity(alloc, slots.len())?;
+    let mut files = Vec::new(alloc);
     let mut findings = Vec::new(alloc);
     add_left(&mut files, &mut findings, slots)?;
     findings.extend_from_slice(&gaps)?;

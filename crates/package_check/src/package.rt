@@ -13,7 +13,6 @@ ghost use Rattle.package_check.specs.Checking.{HasJudgedAll, JudgesThose};
 ghost use Rattle.package_check.specs.Holding.{HasTakenAll, TakesThose, is_kind_at, setting_of};
 
 use crate::contents::{is_copper, is_kind};
-use crate::laws::{findings_name_their_places, passing_is_sound, unique_answer};
 use crate::source_file::SourceFile;
 use crate::{Board, File, Keep, PackageCheck, PackageFault, PackageReader, PiecedFile, Report};
 use grid_units::{Profile, Rules};
@@ -94,19 +93,6 @@ fn check_of<S: SourceFile>(
     Ok(check)
 }
 
-fn report_of<S: SourceFile>(
-    alloc: Global,
-    files: &[S],
-    rules: Rules,
-) -> Result<Report, PackageFault>
-    ensures { ReturnsReport (views_in S.seen S.role_of rules.profile files.now) rules result }
-{
-    match check_of(alloc, files, rules) {
-        Ok(check) => check.finish(),
-        Err(_) => Err(PackageFault::Memory),
-    }
-}
-
 /// The report on the files in the profile of the rules. Where it has no finding, each plated hole, round or a slot, lies with
 /// its ring in one pad of each copper layer of its file's span, and no points of two holes are nearer than the gap. In the
 /// strict profile the pads are flashes of standard apertures, and no plated slot through a copper layer is oblique.
@@ -121,10 +107,10 @@ pub fn check_bytes(alloc: Global, files: &[File], rules: Rules) -> Result<Report
     ensures legal { IfOk result (λ report. AreLegal (file_views_in rules.profile files.now)) }
     ensures sound { IfOk result (λ report. report.findings ≡ [] → IsSound (file_views_in rules.profile files.now) rules) }
 {
-    unique_answer();
-    findings_name_their_places();
-    passing_is_sound();
-    report_of(alloc, files, rules)
+    match check_of(alloc, files, rules) {
+        Ok(check) => check.finish(),
+        Err(_) => Err(PackageFault::Memory),
+    }
 }
 
 /// The report of [`check_bytes`] on files whose bytes come in pieces. The pieces are never joined in memory.
@@ -143,10 +129,10 @@ pub fn check_pieces(
     ensures legal { IfOk result (λ report. AreLegal (pieced_file_views rules.profile files.now)) }
     ensures sound { IfOk result (λ report. report.findings ≡ [] → IsSound (pieced_file_views rules.profile files.now) rules) }
 {
-    unique_answer();
-    findings_name_their_places();
-    passing_is_sound();
-    report_of(alloc, files, rules)
+    match check_of(alloc, files, rules) {
+        Ok(check) => check.finish(),
+        Err(_) => Err(PackageFault::Memory),
+    }
 }
 
 /// The board of the files in a profile: what all of them say together, with the flashes of copper files and what these draw where `keep` keeps them.

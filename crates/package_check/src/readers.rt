@@ -79,16 +79,9 @@ pub(crate) fn is_copper_function(function: Option<&[u8]>) -> bool
     ensures { result ≡ is_copper_function (option_copied function.entry) }
 {
     match function {
-        Some(text) => first_field(text) == b"Copper".as_slice(),
+        Some(text) => text.split_at(len_before(b',', text)).0 == b"Copper".as_slice(),
         None => true,
     }
-}
-
-/// The text before the first comma.
-fn first_field(text: &[u8]) -> &[u8]
-    ensures { result.now ≡ take_while (λ b. not (b == 44)) text.now }
-{
-    &text[..len_before(b',', text)]
 }
 
 /// What the check keeps of a layer whose pads alone are kept.

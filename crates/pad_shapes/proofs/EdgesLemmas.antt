@@ -38,6 +38,10 @@ pub offset_difference : (a b p : ℤ) → a ≡ p → unsigned_abs a ≤ 1000000
 offset_difference a b p e h l =
     (λ i. to_z w64 (of_z w64 (to_z-of_z w64 a (omega (arith, ints)) i -ℤ to_z-of_z w64 b (omega (arith, ints)) i))) ∙ to_z-of_z w64 (a -ℤ b) (omega (arith, ints)) ∙ (λ i. e i -ℤ b)
 
+-- a product of two steps, as the code has them
+pub product_is : (r x y p q : ℤ) → unsigned_abs p ≤ 20000000000000 → unsigned_abs q ≤ 40000000000000 → p ≡ x → q ≡ y → r ≡ to_z w64 (of_z w64 p) *ℤ to_z w64 (of_z w64 q) → r ≡ x *ℤ y
+product_is r x y p q h l e f g = g ∙ (λ i. (to_z-of_z w64 p (omega (arith, ints)) ∙ e) i *ℤ (to_z-of_z w64 q (omega (arith, ints)) ∙ f) i)
+
 pub fits_difference : (r s : ℤ) → unsigned_abs r ≤ 800000000000000000000000000 → unsigned_abs s ≤ 800000000000000000000000000 → FitsSigned w128 (to_z w128 (of_z w128 r) -ℤ to_z w128 (of_z w128 s))
 fits_difference r s h l = omega (arith, ints)
 

@@ -337,39 +337,25 @@ seen s a b ux uy wx wy long level =
       (λ i. sym long i *ℤ sym (length_is ux uy) i) ∙ inner_by a b ux uy ux uy,
     )
 
-cross_step : (ax ay bx by cx cy dx dy : ℤ)
-    → (bx -ℤ ax) *ℤ (dy -ℤ cy) -ℤ (by -ℤ ay) *ℤ (dx -ℤ cx) ≡ ((bx -ℤ ax) *ℤ (dy -ℤ ay) -ℤ (by -ℤ ay) *ℤ (dx -ℤ ax)) -ℤ ((bx -ℤ ax) *ℤ (cy -ℤ ay) -ℤ (by -ℤ ay) *ℤ (cx -ℤ ax))
-cross_step ax ay bx by cx cy dx dy =
-    let u = is_sub (is_z bx) (is_z ax) in
-    let v = is_sub (is_z by) (is_z ay) in
-    same (is_sub (is_mul u (is_sub (is_z dy) (is_z cy))) (is_mul v (is_sub (is_z dx) (is_z cx))))
-    (is_sub (is_sub (is_mul u (is_sub (is_z dy) (is_z ay))) (is_mul v (is_sub (is_z dx) (is_z ax)))) (is_sub (is_mul u (is_sub (is_z cy) (is_z ay))) (is_mul v (is_sub (is_z cx) (is_z ax))))) (omega arith)
+cross_step : (u v ax ay cx cy dx dy : ℤ) → u *ℤ (dy -ℤ cy) -ℤ v *ℤ (dx -ℤ cx) ≡ (u *ℤ (dy -ℤ ay) -ℤ v *ℤ (dx -ℤ ax)) -ℤ (u *ℤ (cy -ℤ ay) -ℤ v *ℤ (cx -ℤ ax))
+cross_step u v ax ay cx cy dx dy =
+    same (is_sub (is_mul (is_z u) (is_sub (is_z dy) (is_z cy))) (is_mul (is_z v) (is_sub (is_z dx) (is_z cx))))
+    (is_sub (is_sub (is_mul (is_z u) (is_sub (is_z dy) (is_z ay))) (is_mul (is_z v) (is_sub (is_z dx) (is_z ax)))) (is_sub (is_mul (is_z u) (is_sub (is_z cy) (is_z ay))) (is_mul (is_z v) (is_sub (is_z cx) (is_z ax))))) (omega arith)
 
-along_step : (ax ay bx by cx cy dx dy : ℤ)
-    → (bx -ℤ ax) *ℤ (dx -ℤ cx) +ℤ (by -ℤ ay) *ℤ (dy -ℤ cy) ≡ ((bx -ℤ ax) *ℤ (dx -ℤ ax) +ℤ (by -ℤ ay) *ℤ (dy -ℤ ay)) -ℤ ((bx -ℤ ax) *ℤ (cx -ℤ ax) +ℤ (by -ℤ ay) *ℤ (cy -ℤ ay))
-along_step ax ay bx by cx cy dx dy =
-    let u = is_sub (is_z bx) (is_z ax) in
-    let v = is_sub (is_z by) (is_z ay) in
-    same (is_add (is_mul u (is_sub (is_z dx) (is_z cx))) (is_mul v (is_sub (is_z dy) (is_z cy))))
-    (is_sub (is_add (is_mul u (is_sub (is_z dx) (is_z ax))) (is_mul v (is_sub (is_z dy) (is_z ay)))) (is_add (is_mul u (is_sub (is_z cx) (is_z ax))) (is_mul v (is_sub (is_z cy) (is_z ay))))) (omega arith)
+along_step : (u v ax ay cx cy dx dy : ℤ) → u *ℤ (dx -ℤ cx) +ℤ v *ℤ (dy -ℤ cy) ≡ (u *ℤ (dx -ℤ ax) +ℤ v *ℤ (dy -ℤ ay)) -ℤ (u *ℤ (cx -ℤ ax) +ℤ v *ℤ (cy -ℤ ay))
+along_step u v ax ay cx cy dx dy =
+    same (is_add (is_mul (is_z u) (is_sub (is_z dx) (is_z cx))) (is_mul (is_z v) (is_sub (is_z dy) (is_z cy))))
+    (is_sub (is_add (is_mul (is_z u) (is_sub (is_z dx) (is_z ax))) (is_mul (is_z v) (is_sub (is_z dy) (is_z ay)))) (is_add (is_mul (is_z u) (is_sub (is_z cx) (is_z ax))) (is_mul (is_z v) (is_sub (is_z cy) (is_z ay))))) (omega arith)
 
-turn_step : (ax ay bx by cx cy x y : ℤ) (k : ℕ)
-    → (bx -ℤ ax) *ℤ (y -ℤ pos k *ℤ cy) -ℤ (by -ℤ ay) *ℤ (x -ℤ pos k *ℤ cx)
-    ≡ ((bx -ℤ ax) *ℤ (y -ℤ pos k *ℤ ay) -ℤ (by -ℤ ay) *ℤ (x -ℤ pos k *ℤ ax)) -ℤ pos k *ℤ ((bx -ℤ ax) *ℤ (cy -ℤ ay) -ℤ (by -ℤ ay) *ℤ (cx -ℤ ax))
-turn_step ax ay bx by cx cy x y k =
-    let u = is_sub (is_z bx) (is_z ax) in
-    let v = is_sub (is_z by) (is_z ay) in
-    same (is_sub (is_mul u (is_sub (is_z y) (is_mul (is_n k) (is_z cy)))) (is_mul v (is_sub (is_z x) (is_mul (is_n k) (is_z cx)))))
-    (is_sub (is_sub (is_mul u (is_sub (is_z y) (is_mul (is_n k) (is_z ay)))) (is_mul v (is_sub (is_z x) (is_mul (is_n k) (is_z ax))))) (is_mul (is_n k) (is_sub (is_mul u (is_sub (is_z cy) (is_z ay))) (is_mul v (is_sub (is_z cx) (is_z ax)))))) (omega arith)
+turn_step : (u v ax ay cx cy x y : ℤ) (k : ℕ) → u *ℤ (y -ℤ pos k *ℤ cy) -ℤ v *ℤ (x -ℤ pos k *ℤ cx) ≡ (u *ℤ (y -ℤ pos k *ℤ ay) -ℤ v *ℤ (x -ℤ pos k *ℤ ax)) -ℤ pos k *ℤ (u *ℤ (cy -ℤ ay) -ℤ v *ℤ (cx -ℤ ax))
+turn_step u v ax ay cx cy x y k =
+    same (is_sub (is_mul (is_z u) (is_sub (is_z y) (is_mul (is_n k) (is_z cy)))) (is_mul (is_z v) (is_sub (is_z x) (is_mul (is_n k) (is_z cx)))))
+    (is_sub (is_sub (is_mul (is_z u) (is_sub (is_z y) (is_mul (is_n k) (is_z ay)))) (is_mul (is_z v) (is_sub (is_z x) (is_mul (is_n k) (is_z ax))))) (is_mul (is_n k) (is_sub (is_mul (is_z u) (is_sub (is_z cy) (is_z ay))) (is_mul (is_z v) (is_sub (is_z cx) (is_z ax)))))) (omega arith)
 
-ahead_step : (ax ay bx by cx cy x y : ℤ) (k : ℕ)
-    → (bx -ℤ ax) *ℤ (x -ℤ pos k *ℤ cx) +ℤ (by -ℤ ay) *ℤ (y -ℤ pos k *ℤ cy)
-    ≡ ((bx -ℤ ax) *ℤ (x -ℤ pos k *ℤ ax) +ℤ (by -ℤ ay) *ℤ (y -ℤ pos k *ℤ ay)) -ℤ pos k *ℤ ((bx -ℤ ax) *ℤ (cx -ℤ ax) +ℤ (by -ℤ ay) *ℤ (cy -ℤ ay))
-ahead_step ax ay bx by cx cy x y k =
-    let u = is_sub (is_z bx) (is_z ax) in
-    let v = is_sub (is_z by) (is_z ay) in
-    same (is_add (is_mul u (is_sub (is_z x) (is_mul (is_n k) (is_z cx)))) (is_mul v (is_sub (is_z y) (is_mul (is_n k) (is_z cy)))))
-    (is_sub (is_add (is_mul u (is_sub (is_z x) (is_mul (is_n k) (is_z ax)))) (is_mul v (is_sub (is_z y) (is_mul (is_n k) (is_z ay))))) (is_mul (is_n k) (is_add (is_mul u (is_sub (is_z cx) (is_z ax))) (is_mul v (is_sub (is_z cy) (is_z ay)))))) (omega arith)
+ahead_step : (u v ax ay cx cy x y : ℤ) (k : ℕ) → u *ℤ (x -ℤ pos k *ℤ cx) +ℤ v *ℤ (y -ℤ pos k *ℤ cy) ≡ (u *ℤ (x -ℤ pos k *ℤ ax) +ℤ v *ℤ (y -ℤ pos k *ℤ ay)) -ℤ pos k *ℤ (u *ℤ (cx -ℤ ax) +ℤ v *ℤ (cy -ℤ ay))
+ahead_step u v ax ay cx cy x y k =
+    same (is_add (is_mul (is_z u) (is_sub (is_z x) (is_mul (is_n k) (is_z cx)))) (is_mul (is_z v) (is_sub (is_z y) (is_mul (is_n k) (is_z cy)))))
+    (is_sub (is_add (is_mul (is_z u) (is_sub (is_z x) (is_mul (is_n k) (is_z ax)))) (is_mul (is_z v) (is_sub (is_z y) (is_mul (is_n k) (is_z ay))))) (is_mul (is_n k) (is_add (is_mul (is_z u) (is_sub (is_z cx) (is_z ax))) (is_mul (is_z v) (is_sub (is_z cy) (is_z ay)))))) (omega arith)
 
 times_apart : (k : ℕ) (u v : ℤ) → pos k *ℤ (u -ℤ v) ≡ pos k *ℤ u -ℤ pos k *ℤ v
 times_apart k u v = same (is_mul (is_n k) (is_sub (is_z u) (is_z v))) (is_sub (is_mul (is_n k) (is_z u)) (is_mul (is_n k) (is_z v))) (omega arith)
@@ -392,11 +378,11 @@ meets_after e g k x y some level on left after more side =
     let wx = x -ℤ pos k *ℤ g.from.x in
     let wy = y -ℤ pos k *ℤ g.from.y in
     let level_w : a *ℤ wy -ℤ b *ℤ wx ≡ pos 0 =
-    both_0 (a *ℤ wy -ℤ b *ℤ wx) (turn e k x y) (pos k *ℤ cross e g.from) (turn_step e.from.x e.from.y e.to.x e.to.y g.from.x g.from.y x y k) level (times_0 k (cross e g.from) on) in
+    both_0 (a *ℤ wy -ℤ b *ℤ wx) (turn e k x y) (pos k *ℤ cross e g.from) (turn_step a b e.from.x e.from.y g.from.x g.from.y x y k) level (times_0 k (cross e g.from) on) in
     let by = seen (square_edge e) a b ux uy wx wy (length_is a b) level_w in
-    let cs = cross_step e.from.x e.from.y e.to.x e.to.y g.from.x g.from.y g.to.x g.to.y in
-    let ms = along_step e.from.x e.from.y e.to.x e.to.y g.from.x g.from.y g.to.x g.to.y in
-    let hs = ahead_step e.from.x e.from.y e.to.x e.to.y g.from.x g.from.y x y k in
+    let cs = cross_step a b e.from.x e.from.y g.from.x g.from.y g.to.x g.to.y in
+    let ms = along_step a b e.from.x e.from.y g.from.x g.from.y g.to.x g.to.y in
+    let hs = ahead_step a b e.from.x e.from.y g.from.x g.from.y x y k in
     let found = meets_by (square_edge e) k (a *ℤ ux +ℤ b *ℤ uy) (a *ℤ wx +ℤ b *ℤ wy) (a *ℤ uy -ℤ b *ℤ ux) (ux *ℤ wy -ℤ uy *ℤ wx) (ux *ℤ wx +ℤ uy *ℤ wy) (square_length ux uy) some by.0 by.1 by.2
     (above (a *ℤ wx +ℤ b *ℤ wy) (ahead e k x y) (pos k *ℤ along e g.from) hs after)
     (left_0 (a *ℤ uy -ℤ b *ℤ ux) (cross e g.to) (cross e g.from) cs on left) side
@@ -460,11 +446,11 @@ meets_before e g k x y some level on left before more side =
     let t = ux *ℤ wy -ℤ uy *ℤ wx in
     let i = ux *ℤ wx +ℤ uy *ℤ wy in
     let level_w : a *ℤ wy -ℤ b *ℤ wx ≡ pos 0 =
-    both_0 (a *ℤ wy -ℤ b *ℤ wx) (turn e k x y) (pos k *ℤ cross e g.to) (turn_step e.from.x e.from.y e.to.x e.to.y g.to.x g.to.y x y k) level (times_0 k (cross e g.to) on) in
+    both_0 (a *ℤ wy -ℤ b *ℤ wx) (turn e k x y) (pos k *ℤ cross e g.to) (turn_step a b e.from.x e.from.y g.to.x g.to.y x y k) level (times_0 k (cross e g.to) on) in
     let by = seen (square_edge e) a b ux uy wx wy (length_is a b) level_w in
-    let cs = cross_step e.from.x e.from.y e.to.x e.to.y g.from.x g.from.y g.to.x g.to.y in
-    let ms = along_step e.from.x e.from.y e.to.x e.to.y g.from.x g.from.y g.to.x g.to.y in
-    let hs = ahead_step e.from.x e.from.y e.to.x e.to.y g.to.x g.to.y x y k in
+    let cs = cross_step a b e.from.x e.from.y g.from.x g.from.y g.to.x g.to.y in
+    let ms = along_step a b e.from.x e.from.y g.from.x g.from.y g.to.x g.to.y in
+    let hs = ahead_step a b e.from.x e.from.y g.to.x g.to.y x y k in
     let ts = turn_to g.from.x g.from.y g.to.x g.to.y x y k in
     let found = meets_by (square_edge e) k m (pos 0 -ℤ h) (pos 0 -ℤ c) t (pos 0 -ℤ i) (square_length ux uy) some
     (by.0 ∙ ap (λ z. pos 0 -ℤ z) (opposite_product h c))
@@ -598,8 +584,8 @@ none_left e g p some from to on left =
     let uy = g.to.y -ℤ g.from.y in
     let vx = p.x -ℤ g.from.x in
     let vy = p.y -ℤ g.from.y in
-    let u_0 : a *ℤ uy -ℤ b *ℤ ux ≡ pos 0 = both_0 (a *ℤ uy -ℤ b *ℤ ux) (cross e g.to) (cross e g.from) (cross_step e.from.x e.from.y e.to.x e.to.y g.from.x g.from.y g.to.x g.to.y) to from in
-    let v_0 : a *ℤ vy -ℤ b *ℤ vx ≡ pos 0 = both_0 (a *ℤ vy -ℤ b *ℤ vx) (cross e p) (cross e g.from) (cross_step e.from.x e.from.y e.to.x e.to.y g.from.x g.from.y p.x p.y) on from in
+    let u_0 : a *ℤ uy -ℤ b *ℤ ux ≡ pos 0 = both_0 (a *ℤ uy -ℤ b *ℤ ux) (cross e g.to) (cross e g.from) (cross_step a b e.from.x e.from.y g.from.x g.from.y g.to.x g.to.y) to from in
+    let v_0 : a *ℤ vy -ℤ b *ℤ vx ≡ pos 0 = both_0 (a *ℤ vy -ℤ b *ℤ vx) (cross e p) (cross e g.from) (cross_step a b e.from.x e.from.y g.from.x g.from.y p.x p.y) on from in
     let by : pos (square_edge e) *ℤ cross g p ≡ pos 0 =
     ap (λ z. z *ℤ (ux *ℤ vy -ℤ uy *ℤ vx)) (sym (length_is a b)) ∙ area_by a b ux uy vx vy
     ∙ (λ i. (a *ℤ ux +ℤ b *ℤ uy) *ℤ v_0 i -ℤ (a *ℤ vx +ℤ b *ℤ vy) *ℤ u_0 i)

@@ -1,6 +1,6 @@
 //! Edges of polygons: the areas and lengths between an edge and a point, and comparisons of their squares in 128 bits.
 
-ghost use Rattle.std.specs.Prelude.{◌≡◌, ◌+◌, ◌*◌, ◌<◌, ◌≤◌, ◌*ℤ◌, pos, unsigned_abs, nat_le};
+ghost use Rattle.std.specs.Prelude.{◌≡◌, ◌+◌, ◌*◌, ◌<◌, ◌≤◌, ◌-ℤ◌, ◌*ℤ◌, pos, unsigned_abs, int_lt, nat_le};
 ghost use Rattle.std.specs.Ordering.{MatchOrdering};
 ghost use Rattle.grid_units.specs.Points.{square, square_distance};
 ghost use Rattle.pad_shapes.specs.Rounded.{cross, along, square_edge, is_deep_left, is_beside};
@@ -19,21 +19,46 @@ fn product(a: i64, b: i64) -> i128
     i128::from(a) * i128::from(b)
 }
 
+/// The step from a corner to the next one along each axis, in pm.
+fn step(from: Point, to: Point) -> (i64, i64)
+    ensures value { result ≡ (to.x -ℤ from.x, to.y -ℤ from.y) }
+    ensures small { (unsigned_abs result.0 ≤ 20000000000000) × (unsigned_abs result.1 ≤ 20000000000000) }
+{
+    (to.x() - from.x(), to.y() - from.y())
+}
+
+/// The step from a corner to a point along each axis, in pm.
+fn step_to(from: Point, point: RelativePoint) -> (i64, i64)
+    ensures value { result ≡ (point.x -ℤ from.x, point.y -ℤ from.y) }
+    ensures small { (unsigned_abs result.0 ≤ 40000000000000) × (unsigned_abs result.1 ≤ 40000000000000) }
+{
+    (point.x() - from.x(), point.y() - from.y())
+}
+
 /// Twice the area of the triangle of an edge and a point, in square pm: above 0 where the point lies to the left of the edge.
-pub(crate) fn cross(from: Point, to: Point, point: RelativePoint) -> i128
+fn cross(from: Point, to: Point, point: RelativePoint) -> i128
     ensures value { result ≡ cross (record { from = from; to = to }) point }
     ensures small { unsigned_abs result ≤ 1600000000000000000000000000 }
 {
-    product(to.x() - from.x(), point.y() - from.y())
-        - product(to.y() - from.y(), point.x() - from.x())
+    let (dx, dy) = step(from, to);
+    let (x, y) = step_to(from, point);
+    product(dx, y) - product(dy, x)
+}
+
+/// Whether a point lies to the left of an edge.
+pub(crate) fn is_left_of(from: Point, to: Point, point: RelativePoint) -> bool
+    ensures { result ≡ int_lt (pos 0) (cross (record { from = from; to = to }) point) }
+{
+    0 < cross(from, to, point)
 }
 
 /// How far a point lies along an edge from its start, times the edge's length, in square pm.
 fn along(from: Point, to: Point, point: RelativePoint) -> i128
     ensures { result ≡ along (record { from = from; to = to }) point }
 {
-    product(to.x() - from.x(), point.x() - from.x())
-        + product(to.y() - from.y(), point.y() - from.y())
+    let (dx, dy) = step(from, to);
+    let (x, y) = step_to(from, point);
+    product(dx, x) + product(dy, y)
 }
 
 /// The square of an edge's length, in square pm.

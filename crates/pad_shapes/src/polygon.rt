@@ -2,10 +2,9 @@
 
 ghost use Rattle.std.specs.Prelude.{◌≡◌, ◌≤◌};
 ghost use Rattle.std.specs.Int.{int_min, int_max};
-ghost use Rattle.grid_units.specs.Points.{IsCoordinate};
 ghost use Rattle.pad_shapes.specs.Rounded.{has_area, is_deep_inside, is_near_corner, is_near_rim, is_convex, is_outline, is_deep_left_of_all, is_beside_some, box_corner};
 
-use crate::edges::{cross, is_beside, is_deep_left, square_distance_to};
+use crate::edges::{is_beside, is_deep_left, is_left_of, square_distance_to};
 use crate::relative::RelativePoint;
 use grid_units::{Point, square};
 
@@ -16,12 +15,12 @@ fn has_area(first: Point, others: &[Point]) -> bool
     let start = RelativePoint::to_zero(first);
     let mut from = first;
     for to in others {
-        if 0 < cross(from, *to, start) {
+        if is_left_of(from, *to, start) {
             return true;
         }
         from = *to;
     }
-    0 < cross(from, first, start)
+    is_left_of(from, first, start)
 }
 
 /// Whether a point lies to the left of each edge, no nearer to it than the depth.
@@ -126,64 +125,26 @@ pub(crate) fn is_outline(first: Point, others: &[Point]) -> bool
     is_convex(first, others)
 }
 
-/// The least x of the corners, in pm.
-fn least_x(first: Point, others: &[Point]) -> i64
-    ensures value { result ≡ (box_corner int_min (record { first = first; others = others.now; radius = 0 })).x }
-    ensures in_range { IsCoordinate result }
-{
-    let mut least = first.x();
-    for corner in others {
-        least = least.min(corner.x());
-    }
-    least
-}
-
-/// The greatest x of the corners, in pm.
-fn greatest_x(first: Point, others: &[Point]) -> i64
-    ensures value { result ≡ (box_corner int_max (record { first = first; others = others.now; radius = 0 })).x }
-    ensures in_range { IsCoordinate result }
-{
-    let mut greatest = first.x();
-    for corner in others {
-        greatest = greatest.max(corner.x());
-    }
-    greatest
-}
-
-/// The least y of the corners, in pm.
-fn least_y(first: Point, others: &[Point]) -> i64
-    ensures value { result ≡ (box_corner int_min (record { first = first; others = others.now; radius = 0 })).y }
-    ensures in_range { IsCoordinate result }
-{
-    let mut least = first.y();
-    for corner in others {
-        least = least.min(corner.y());
-    }
-    least
-}
-
-/// The greatest y of the corners, in pm.
-fn greatest_y(first: Point, others: &[Point]) -> i64
-    ensures value { result ≡ (box_corner int_max (record { first = first; others = others.now; radius = 0 })).y }
-    ensures in_range { IsCoordinate result }
-{
-    let mut greatest = first.y();
-    for corner in others {
-        greatest = greatest.max(corner.y());
-    }
-    greatest
-}
-
 /// The corner with the least x and the least y of the box of the corners.
 pub(crate) fn low_corner(first: Point, others: &[Point]) -> Point
     ensures { result ≡ box_corner int_min (record { first = first; others = others.now; radius = 0 }) }
 {
-    Point::new(least_x(first, others), least_y(first, others)).unwrap()
+    let (mut x, mut y) = (first.x(), first.y());
+    for corner in others {
+        x = x.min(corner.x());
+        y = y.min(corner.y());
+    }
+    Point::new(x, y).unwrap()
 }
 
 /// The corner with the greatest x and the greatest y of the box of the corners.
 pub(crate) fn high_corner(first: Point, others: &[Point]) -> Point
     ensures { result ≡ box_corner int_max (record { first = first; others = others.now; radius = 0 }) }
 {
-    Point::new(greatest_x(first, others), greatest_y(first, others)).unwrap()
+    let (mut x, mut y) = (first.x(), first.y());
+    for corner in others {
+        x = x.max(corner.x());
+        y = y.max(corner.y());
+    }
+    Point::new(x, y).unwrap()
 }

@@ -1,5 +1,5 @@
 -- Pairs of places in order: a list in which each pair comes before all later ones is known by its members.
-use Rattle.ring_rules.proofs.Common.{◌≡◌, ℕ, ◌+◌, ◌<◌, ◌⊎◌, inl, inr, zero, suc, List, [], ◌∷◌, ◌++◌, map, length, get_or, refl, sym, ap, ◌∙◌, subst, arith, Bool, true, nat_eq, ◌&&◌, All, AllPairs, Contains, IsStrictlySortedBy, nat_cmp, ordering_then, eq_by_cmp, cases_lt, nat_tests, All-head, All-tail, All-append, All-map, All-weaker, All-contains, All-from_recursion, AllPairs-cons, IsPairBefore}
+use Rattle.ring_rules.proofs.Common.{◌≡◌, ℕ, ◌<◌, ◌⊎◌, inl, inr, zero, suc, List, [], ◌∷◌, ◌++◌, map, length, get_or, refl, sym, ap, ◌∙◌, subst, arith, Bool, true, nat_eq, ◌&&◌, All, AllPairs, Contains, IsStrictlySortedBy, nat_cmp, ordering_then, eq_by_cmp, cases_lt, nat_tests, All-head, All-tail, All-append, All-map, All-weaker, All-contains, All-from_recursion, AllPairs-cons, IsPairBefore}
 use Rattle.std.specs.declared.cmp.Ordering.{Ordering}
 use Rattle.std.specs.declared.cmp.Ordering.TheVariants.{Less}
 use Rattle.std.specs.Cmp.{IsTotalOrder, nat_cmp_total, on_total, then_total, both_tied, unsigned_ties, IsEquivalence, nat_eq_equiv, on_equiv, and_equiv}

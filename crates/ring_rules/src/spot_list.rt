@@ -1,6 +1,6 @@
 //! Spots in few bytes. A board has many holes and few tools, so what holes of one tool have in common stands once.
 
-ghost use Rattle.std.specs.Prelude.{◌≡◌, ℕ, ◌<◌, ◌≤◌, ◌≤ℤ◌, ◌-ℤ◌, [], ◌∷◌, ◌++◌, true, length, get_or, unsigned_abs, IfOk, IfSome, OnOk};
+ghost use Rattle.std.specs.Prelude.{◌≡◌, ℕ, ◌<◌, ◌≤◌, ◌-ℤ◌, [], ◌∷◌, ◌++◌, true, length, unsigned_abs, IfOk, IfSome, OnOk};
 ghost use Rattle.std.specs.List.Sorted.{IsPermutation};
 ghost use Rattle.grid_units.specs.Points.{IsCoordinate};
 ghost use Rattle.ring_rules.specs.Spots.{spot_at, point_at};

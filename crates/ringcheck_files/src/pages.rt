@@ -27,10 +27,7 @@ manifest.
 ",
     "\
 SeveralInOne: one pair of % holds several commands, an older way of writing
-Gerber. If your tool has a setting for RS-274X or X2, use it. If not, this may
-help (not tried on such a file):
-  gerbv -x rs274x -o OUT IN
-Sizes are then rounded to 0.1 mil, and attributes are lost.
+Gerber (Allegro). Check with --profile wide: it reads them.
 ",
     "\
 ClearPolarity: %LPC*% removes copper, and the check cannot follow that.

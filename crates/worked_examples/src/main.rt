@@ -1,5 +1,5 @@
-//! Runs the worked examples of `data/examples.txt` and the cases of `data/cases.txt`, and prints each whose answer differs from the
-//! expected one. The head of the first file says how they are written.
+//! Runs the worked examples of `data/examples.txt`, the cases of `data/cases.txt` and `data/dialects.txt`, and prints each whose answer differs from
+//! the expected one. The head of the first file says how they are written.
 #![tactic(auto)]
 
 mod draft;
@@ -86,5 +86,6 @@ fn run_file(rt: &HostRuntime, name: &str) -> io::Result<()> {
 
 fn main(rt: HostRuntime) -> io::Result<()> {
     run_file(&rt, "examples.txt")?;
-    run_file(&rt, "cases.txt")
+    run_file(&rt, "cases.txt")?;
+    run_file(&rt, "dialects.txt")
 }

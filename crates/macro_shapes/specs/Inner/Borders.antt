@@ -33,7 +33,3 @@ discs_in_turn qs r = fold (λ found v. least found (disc_at qs v)) (disc_at qs r
 -- the border, edge by edge
 abbrev pub border_in_turn : List Primitive → GridRounded → Option ℕ
 border_in_turn qs r = if length r.others == 0 then discs_in_turn qs r else fold (λ found e. least found (line_along qs e)) (discs_in_turn qs r) (edges r)
-
--- the border of a cross, size by size
-abbrev pub cross_border_in_turn : List Primitive → GridRounded → ℕ → ℕ → Option ℕ
-cross_border_in_turn qs common widths heights = least (least (discs_in_turn qs common) (Some widths)) (Some heights)

@@ -1,27 +1,38 @@
 -- The primitives of a macro, piece by piece.
-use Rattle.std.specs.Prelude.{ℕ, ℤ, nat_le, List, [], ◌∷◌, length, if◌then◌else◌, Option, None, Some, option_map, option_and_then}
+use Rattle.std.specs.Prelude.{ℕ, ℤ, ◌+◌, nat_le, List, [], ◌∷◌, length, if◌then◌else◌, Option, None, Some, option_map, option_and_then}
+use Rattle.std.specs.Option.{option_or}
 use Rattle.std.specs.Result.{result_ok}
 use Rattle.grid_units.specs.Ascii as ascii
 use Rattle.grid_units.specs.Numbers.{parse_decimal}
 use Rattle.macro_shapes.specs.Values.{Environment, with_value}
-use Rattle.macro_shapes.specs.Inner.Reading.{start, run}
-use Rattle.macro_shapes.specs.Pieces.{split_by, code_of, max_variables}
+use Rattle.macro_shapes.specs.Inner.Reading.{start, final_value, final_product, run}
+use Rattle.macro_shapes.specs.Pieces.{split_by, code_of, is_diameter, max_variables}
 use Rattle.macro_shapes.specs.Inner.Bytes.{starts_comment, starts_definition}
 use Rattle.macro_shapes.specs.declared.fields.Fields.{Fields}
+use Rattle.macro_shapes.specs.declared.piece.Code.{Code}
 
 -- the value of an expression
 unfoldable pub value_of : Environment → List ℕ → Option ℤ
-value_of variables text = if nat_le (length text) 1000 then run variables start [] text else None
+value_of variables text = if nat_le (length text) 1000 then option_and_then (λ e. final_value variables e.0 e.1) (run variables start [] text) else None
 
--- the values of expressions
-abbrev pub all_values : Environment → List (List ℕ) → Option (List ℤ)
-all_values variables [] = Some []
-all_values variables (text ∷ texts) = option_and_then (λ v. option_map (λ vs. v ∷ vs) (all_values variables texts)) (value_of variables text)
+-- the value of a diameter: that of an expression, or else the product that this is as a whole, rounded down
+abbrev pub diameter_of : Environment → List ℕ → Option ℤ
+diameter_of vars text =
+    option_or (value_of vars text) (if nat_le (length text) 1000 then option_and_then (λ e. final_product vars e.0 e.1) (run vars start [] text) else None)
+
+-- the value of the field of this number
+abbrev pub field_value : Environment → Code → ℕ → List ℕ → Option ℤ
+field_value variables c n text = if is_diameter c n then diameter_of variables text else value_of variables text
+
+-- the values of the fields from this number on
+abbrev pub all_values : Environment → Code → ℕ → List (List ℕ) → Option (List ℤ)
+all_values variables c n [] = Some []
+all_values variables c n (text ∷ rest) = option_and_then (λ v. option_map (λ vs. v ∷ vs) (all_values variables c (n + 1) rest)) (field_value variables c n text)
 
 -- the primitive of a code and the texts of its other fields
 abbrev pub parts_fields : Environment → List (List ℕ) → Option Fields
 parts_fields variables [] = None
-parts_fields variables (code ∷ texts) = option_and_then (λ c. option_map (λ vs. record { code = c; values = vs }) (all_values variables texts)) (code_of code)
+parts_fields vars (code ∷ texts) = option_and_then (λ c. option_map (λ vs. record { code = c; values = vs }) (all_values vars c 0 texts)) (code_of code)
 
 -- the primitive that a piece spells, where its code is judged and each field has a value
 unfoldable pub piece_fields : Environment → List ℕ → Option Fields

@@ -1,29 +1,26 @@
 -- How an expression is read, from left to right: what each sign does with what stands before it.
-use Rattle.std.specs.Prelude.{ℕ, ℤ, pos, ◌+ℤ◌, ◌-ℤ◌, Bool, false, ◌&&◌, nat_lt, List, [], ◌∷◌, ◌++◌, length, if◌then◌else◌, Option, None, Some, is_none, option_map, option_and_then}
+use Rattle.std.specs.Prelude.{ℕ, ℤ, pos, Bool, false, ◌&&◌, nat_lt, List, [], ◌∷◌, ◌++◌, length, reverse, if◌then◌else◌, Option, None, Some, is_none, option_map, option_and_then}
 use Rattle.macro_shapes.specs.declared.sign.Sign.{Sign}
 use Rattle.macro_shapes.specs.declared.sign.Sign.TheVariants.{Open, Close, Add, Multiply}
 use Rattle.macro_shapes.specs.declared.sign.Addition.{Addition}
-use Rattle.macro_shapes.specs.declared.sign.Addition.TheVariants.{Plus, Minus}
 use Rattle.macro_shapes.specs.declared.sign.Multiplication.{Multiplication}
-use Rattle.macro_shapes.specs.declared.sign.Multiplication.TheVariants.{Times, Over}
-use Rattle.macro_shapes.specs.declared.frames.Frame.{Frame}
+use Rattle.macro_shapes.specs.declared.sign.Multiplication.TheVariants.{Times}
+use Rattle.macro_shapes.specs.declared.reading.Frame.{Frame}
+use Rattle.macro_shapes.specs.declared.reading.Reading.{Reading}
 use Rattle.macro_shapes.specs.Signs.{sign_of}
-use Rattle.macro_shapes.specs.Values.{Environment, in_range, operand_value, product, quotient}
+use Rattle.macro_shapes.specs.Values.{Environment, added_by, multiplied_by, operand_value, product_below}
 
 -- a term after what stands before it: `$1` alone, `-$1`, `2+$1`
 abbrev pub sum_with : Option (ℤ × Addition) → ℤ → Option ℤ
 sum_with None b = Some b
-sum_with (Some (a, Plus)) b = in_range (a +ℤ b)
-sum_with (Some (a, Minus)) b = in_range (a -ℤ b)
+sum_with (Some (a, sign)) b = added_by (Some (Add sign)) a b
 
 -- a factor after what stands before it: `$1` alone, `2x$1`, `2/$1`
 abbrev pub product_with : Option (ℤ × Multiplication) → ℤ → Option ℤ
 product_with None b = Some b
-product_with (Some (a, Times)) b = product a b
-product_with (Some (a, Over)) b = quotient a b
+product_with (Some (a, sign)) b = multiplied_by (Some (Multiply sign)) a b
 
--- what was read up to the operand at hand: what stands before each open bracket, the innermost first, what stands before the operand
--- inside of them, and the value of brackets that closed just here
+-- what was read up to an operand: what stands before each open bracket, the innermost first, and before the operand, and what brackets closed there
 pub record State : Type 0 where
   pub outer : List Frame
   pub frame : Frame
@@ -36,6 +33,10 @@ at outer frame closed = record { outer = outer; frame = frame; closed = closed }
 -- what stands before an operand inside of its brackets
 abbrev pub frame_after : Option (ℤ × Addition) → Option (ℤ × Multiplication) → Frame
 frame_after before_term before_factor = record { before_term = before_term; before_factor = before_factor }
+
+-- the state that a reading stands in
+abbrev pub state : Reading → State
+state r = at (reverse r.outer.items) r.frame r.closed
 
 -- nothing stands before the operand
 abbrev pub fresh : Frame
@@ -113,13 +114,22 @@ unless_open (frame ∷ outer) v = None
 abbrev pub final_value : Environment → State → List ℕ → Option ℤ
 final_value variables s text = unless_open s.outer (sum_of variables s text)
 
+-- a product after which nothing stands, rounded down
+abbrev pub rounded_with : Option (ℤ × Addition) → Option (ℤ × Multiplication) → ℤ → Option ℤ
+rounded_with None (Some (a, Times)) b = product_below a b
+rounded_with _ _ b = None
+
+-- the product at the end of the text, where it is all of it, rounded down
+abbrev pub final_product : Environment → State → List ℕ → Option ℤ
+final_product variables s text = unless_open s.outer (option_and_then (rounded_with s.frame.before_term s.frame.before_factor) (factor_of variables s text))
+
 -- goes on with a byte of an operand, or with a sign
 abbrev pub on_byte : {A : Type 0} → Option Sign → A → (Sign → A) → A
 on_byte None stay go = stay
 on_byte (Some sign) stay go = go sign
 
--- the value of what was read and what follows it
-unfoldable pub run : Environment → State → List ℕ → List ℕ → Option ℤ
-run variables s held [] = final_value variables s held
+-- the state before the last operand of what was read and what follows it, and that operand
+unfoldable pub run : Environment → State → List ℕ → List ℕ → Option (State × List ℕ)
+run variables s held [] = Some (s, held)
 run variables s held (b ∷ bs) =
     on_byte (sign_of b) (run variables s (held ++ b ∷ []) bs) (λ k. option_and_then (λ t. run variables t [] bs) (step variables s held k))

@@ -1,30 +1,16 @@
 -- Steps of the definitions, as the functions of this crate take them.
-use Rattle.std.specs.Prelude.{ℕ, ℤ, pos, neg_ℤ, Bool, List, [], ◌∷◌, slice_get, if◌then◌else◌, Option, None, Some, option_and_then}
-use Rattle.std.specs.Option.{option_map_or}
+use Rattle.std.specs.Prelude.{ℕ, ℤ, List, slice_get, if◌then◌else◌, Option, None, Some, option_and_then}
 use Rattle.std.specs.Result.{result_ok}
 use Rattle.grid_units.specs.Numbers.{picometres, within_limit}
 use Rattle.grid_units.specs.declared.lengths.Unit.{Unit as Units}
 use Rattle.grid_units.specs.Points.{GridPoint}
-use Rattle.pad_shapes.specs.Rounded.{GridRounded}
-use Rattle.macro_shapes.specs.Primitives.{grid_point, is_same, rounded_of}
-use Rattle.macro_shapes.specs.Shapes.{crossing_sides, rectangle_along}
+use Rattle.macro_shapes.specs.Primitives.{grid_point, is_same}
+use Rattle.macro_shapes.specs.Shapes.{crossing_sides}
 use Rattle.macro_shapes.specs.declared.primitive.Primitive.{Primitive}
-
--- a number below zero where this is so: `-5` of 5
-abbrev pub negated_if : Bool → ℕ → ℤ
-negated_if negative n = if negative then neg_ℤ (pos n) else pos n
 
 -- the second of two points that follow one another, where it is another than the first
 abbrev pub other_point : GridPoint × GridPoint → Option GridPoint
 other_point pair = if is_same pair.1 pair.0 then None else Some pair.1
-
--- the ends of a line after the first one: none where they are equal
-abbrev pub other_end : GridPoint → GridPoint → List GridPoint
-other_end a b = if is_same a b then [] else b ∷ []
-
--- the line with round ends of this size, where there is one, or the line with square ends along an axis
-abbrev pub rounded_or_along : GridPoint → GridPoint → ℕ → Option ℕ → Option GridRounded
-rounded_or_along a b width size = option_map_or (rounded_of a (other_end a b)) size (rectangle_along a b width)
 
 -- the sides of the second primitive, where that is a rectangle which crosses the first one
 abbrev pub second_crossing : GridPoint → ℕ → ℕ → List Primitive → Option (ℕ × ℕ)

@@ -47,8 +47,7 @@ rings_in (Some one) = one.rings.items
 -- the index of a copper file by its counts, as a list of one; none of a drill file
 abbrev pub index_in : ℕ × FileSum → List ℕ
 index_in (file, sum.Layer pads other contours) = file ∷ []
-index_in (file, sum.Drill plated span contradicted round slots) = []
-index_in (file, sum.Mixed span round slots unplated) = []
+index_in (file, _) = []
 
 -- the indexes of the copper files among all files, from 0, by the counts of the files
 abbrev pub layer_indexes_in : List FileSum → List ℕ

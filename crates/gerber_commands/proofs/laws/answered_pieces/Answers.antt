@@ -1,5 +1,5 @@
-use Rattle.gerber_commands.proofs.Answered.{items_are_answered, one_list, written_is_answered}
+use Rattle.gerber_commands.proofs.Answered.{one_list, written_is_answered}
 use Rattle.gerber_commands.proofs.laws.answered_pieces.Goals as goal
 
 pub returns : goal.returns
-returns c = record { piece = written_is_answered; unique = one_list; item = items_are_answered }
+returns c = record { piece = written_is_answered; unique = one_list }

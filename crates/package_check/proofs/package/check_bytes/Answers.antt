@@ -1,15 +1,14 @@
 use Rattle.package_check.proofs.Common.{file_views_in}
-use Rattle.package_check.proofs.AnswerLemmas.{just, legal, named, passed}
 use Rattle.package_check.proofs.package.check_bytes.Goals as goal
 
-pub returns-clause-only : goal.returns-clause-only
-returns-clause-only c = just (file_views_in c.args.rules.profile c.args.files.now) c.args.rules c.unique_answer.ensures c.report_of.result c.report_of.ensures
-
-pub returns-clause-places : goal.returns-clause-places
-returns-clause-places c = named (file_views_in c.args.rules.profile c.args.files.now) c.args.rules c.findings_name_their_places.ensures c.report_of.result c.report_of.ensures
-
-pub returns-clause-legal : goal.returns-clause-legal
-returns-clause-legal c = legal (file_views_in c.args.rules.profile c.args.files.now) c.args.rules c.report_of.result c.report_of.ensures
-
-pub returns-clause-sound : goal.returns-clause-sound
-returns-clause-sound c = passed (file_views_in c.args.rules.profile c.args.files.now) c.args.rules c.passing_is_sound.ensures c.report_of.result c.report_of.ensures
+pub returns-in-Ok : goal.returns-in-Ok
+returns-in-Ok c =
+    let views = file_views_in c.args.rules.profile c.args.files.now in
+    let all = c.finish.ensures in
+    record {
+      exact = all.exact views c.args.rules c.in-Ok.ensures;
+      only = λ answer. all.only views c.args.rules answer c.in-Ok.ensures;
+      places = all.places views c.args.rules c.in-Ok.ensures;
+      legal = all.legal views c.args.rules c.in-Ok.ensures;
+      sound = all.sound views c.args.rules c.in-Ok.ensures;
+    }

@@ -1,12 +1,12 @@
 use Rattle.package_check.proofs.Common.{◌∙◌, ap, refl, subst, sym, true, false, ◌&&◌, ◌+◌, ltb, map, count_by, Setting, is_copper, is_kind, TakesThose, setting_of, is_kind_at, Profile, PackageReader}
-use Rattle.package_check.proofs.TakeSteps.{kind_all, kind_left, kind_none, kind_taken}
+use Rattle.package_check.proofs.TakeSteps.{OfReader, kind_all, kind_left, kind_none, kind_taken}
 use Rattle.package_check.proofs.package.take_kind.Goals as goal
 use Rattle.package_check.proofs.package.take_kind.Goals.{then-is_kind+in_ok-give, else-is_kind}
 
 pub loop-index-init : goal.loop-index-init
 loop-index-init g c =
     let setting = λ (profile : Profile). let s : Setting = record { layers = count_by (λ file. is_copper (g.S.SourceFile.role_of file)) c.args.files.now; profile = profile } in s in
-    record { setting = refl; takes = λ profile same. kind_none (g.S.SourceFile.seen (setting profile)) c.args.copper c.args.files.now c.args.reader.now }
+    record { setting = refl; takes = λ profile same. kind_none (OfReader (map (g.S.SourceFile.seen (setting profile)) c.args.files.now)) (g.S.SourceFile.seen (setting profile)) c.args.copper c.args.files.now c.args.reader.now }
 
 pub loop-index-preserved : goal.loop-index-preserved
 loop-index-preserved g c =
@@ -23,17 +23,17 @@ loop-index-preserved g c =
       | then-is_kind+in_ok-give w ↦ record {
         setting = ap setting_of w.reader-is ∙ (w.in_ok-give.ensures.setting ∙ inv.setting);
         takes = λ profile same. subst (so_far profile) (sym w.reader-is)
-            (kind_taken (seen profile) c.args.copper files start c.loop-index.reader w.give.new.reader k file (g.S.SourceFile.seen (setting_of c.loop-index.reader) file) c.loop-index-test.true c.index-files-index.is (kind profile ∙ w.if-is_kind.true)
-            (λ j. g.S.SourceFile.seen ((inv.setting ∙ same) j) file) (inv.takes profile same) w.in_ok-give.ensures.stands);
+            (kind_taken (OfReader (map (seen profile) files)) (seen profile) c.args.copper files start c.loop-index.reader w.give.new.reader k file (g.S.SourceFile.seen (setting_of c.loop-index.reader) file) c.loop-index-test.true c.index-files-index.is (kind profile ∙ w.if-is_kind.true)
+            (λ j. g.S.SourceFile.seen ((inv.setting ∙ same) j) file) (inv.takes profile same) (w.in_ok-give.ensures.stands (map (seen profile) files)));
       }
       | else-is_kind w ↦ record {
         setting = ap setting_of w.reader-is ∙ inv.setting;
         takes = λ profile same. subst (so_far profile) (sym w.reader-is)
-            (kind_left (seen profile) c.args.copper files start c.loop-index.reader k file c.loop-index-test.true c.index-files-index.is (kind profile ∙ w.if-is_kind.false) (inv.takes profile same));
+            (kind_left (OfReader (map (seen profile) files)) (seen profile) c.args.copper files start c.loop-index.reader k file c.loop-index-test.true c.index-files-index.is (kind profile ∙ w.if-is_kind.false) (inv.takes profile same));
       }
     ]
 
 pub returns-clause-takes : goal.returns-clause-takes
 returns-clause-takes g c = λ profile same.
     let setting : Setting = record { layers = count_by (λ file. is_copper (g.S.SourceFile.role_of file)) c.args.files.now; profile = profile } in
-    kind_all (g.S.SourceFile.seen setting) c.args.copper c.args.files.now c.args.reader.now c.loop-index.reader c.loop-index.index c.loop-index-test.false (c.loop-index.invariant.takes profile same)
+    kind_all (OfReader (map (g.S.SourceFile.seen setting) c.args.files.now)) (g.S.SourceFile.seen setting) c.args.copper c.args.files.now c.args.reader.now c.loop-index.reader c.loop-index.index c.loop-index-test.false (c.loop-index.invariant.takes profile same)

@@ -1,5 +1,5 @@
-use Rattle.package_check.proofs.Common.{◌∙◌, ◌<◌, ◌++◌, ◌∷◌, [], List, ap, arith, false, get_or, inl, inr, length, Drilled}
-use Rattle.package_check.proofs.MarkedLemmas.{found_at, marked_all, marked_more}
+use Rattle.package_check.proofs.Common.{◌∙◌, ◌<◌, ◌++◌, ◌∷◌, [], List, ap, arith, false, get_or, inl, inr, length, Drilled, get_or_default}
+use Rattle.package_check.proofs.MarkedLemmas.{marked_all, marked_more}
 use Rattle.package_check.proofs.readers.marked.Goals as goal
 
 pub returns-then-i-plated : goal.returns-then-i-plated
@@ -16,7 +16,7 @@ loop-i-preserved c =
     record {
       so_far =
           c.in_ok-push.ensures.items
-          ∙ (ap (λ (ds : List Drilled). ds ++ record { hole = hole; plated = one; span = span } ∷ []) c.loop-i.invariant.so_far ∙ marked_more span c.args.holes.now plated i hole one c.loop-i-test.true le c.index-holes-i.is (found_at plated i le));
+          ∙ (ap (λ (ds : List Drilled). ds ++ record { hole = hole; plated = one; span = span } ∷ []) c.loop-i.invariant.so_far ∙ marked_more span c.args.holes.now plated i hole one c.loop-i-test.true le c.index-holes-i.is (get_or_default plated i false one le));
       within = omega (arith, c.if-i-plated.false);
     }
 

@@ -1,13 +1,13 @@
 use Rattle.package_check.proofs.Common.{◌≡◌, ap, ◌∙◌, Profile, without_places, first_parts, uncleared_drawn, keeps_drawn, keeps_rows, FeatureCounts, Drawn, WidePad, is_copper_function}
 use Rattle.layer_features.specs.Features.{counts_of, features_of, pads_of, rows_of, uncounted_contours, uncounted_macros, view_in, wide_features_of}
 use Rattle.std.specs.Global.{Vec}
-use Rattle.package_check.proofs.ShownLemmas.{counted_in, features_kept, parts_kept}
+use Rattle.package_check.proofs.ShownLemmas.{counted_in, kept_where}
 use Rattle.package_check.proofs.readers.rows_view.Goals as goal
 
 pub returns-clause-view : goal.returns-clause-view
 returns-clause-view c of entries is rows viewed =
     let cs = without_places entries in
-    let features : c.in_ok-features.features.items ≡ features_of c.args.profile cs = c.in_ok-features.ensures.view ∙ ap (view_in c.args.profile) (c.into_rows-features.ensures.features ∙ features_kept (keeps_rows of) (wide_features_of cs) c.args.image.features rows is.features) ∙ viewed in
+    let features : c.in_ok-features.features.items ≡ features_of c.args.profile cs = c.in_ok-features.ensures.view ∙ ap (view_in c.args.profile) (c.into_rows-features.ensures.features ∙ kept_where (keeps_rows of) (wide_features_of cs) c.args.image.features rows is.features) ∙ viewed in
     let counts = c.counts-counts.ensures ∙ is.counts ∙ ap (λ (p : Profile). counts_of (features_of p cs)) (counted_in c.args.profile of rows) in
     λ i. record {
       pads = (c.in_ok-show_rows.ensures.pads ∙ ap pads_of features) i;
@@ -20,8 +20,8 @@ returns-clause-view c of entries is rows viewed =
 pub returns-clause-rows : goal.returns-clause-rows
 returns-clause-rows c of entries is rows viewed =
     let cs = without_places entries in
-    let features : c.in_ok-features.features.items ≡ features_of c.args.profile cs = c.in_ok-features.ensures.view ∙ ap (view_in c.args.profile) (c.into_rows-features.ensures.features ∙ features_kept (keeps_rows of) (wide_features_of cs) c.args.image.features rows is.features) ∙ viewed in
-    let wide = c.into_rows-features.ensures.features ∙ features_kept (keeps_rows of) (wide_features_of cs) c.args.image.features rows is.features in
+    let features : c.in_ok-features.features.items ≡ features_of c.args.profile cs = c.in_ok-features.ensures.view ∙ ap (view_in c.args.profile) (c.into_rows-features.ensures.features ∙ kept_where (keeps_rows of) (wide_features_of cs) c.args.image.features rows is.features) ∙ viewed in
+    let wide = c.into_rows-features.ensures.features ∙ kept_where (keeps_rows of) (wide_features_of cs) c.args.image.features rows is.features in
     record {
       rows = c.in_ok-show_rows.ensures.rows ∙ ap rows_of features;
       macros = ap (λ (v : Vec WidePad). v.items) c.show_rows.ensures.macros ∙ c.in_ok-features.ensures.macros ∙ ap (uncounted_macros c.args.profile) wide;
@@ -30,4 +30,4 @@ returns-clause-rows c of entries is rows viewed =
 
 pub returns-clause-drawn : goal.returns-clause-drawn
 returns-clause-drawn c of entries is draws =
-    ap (λ (v : Vec Drawn). v.items) c.show_rows.ensures.drawn ∙ c.into_rows-features.ensures.drawn ∙ parts_kept (keeps_drawn of) (first_parts (uncleared_drawn (without_places entries))) c.args.image.drawn draws is.drawn
+    ap (λ (v : Vec Drawn). v.items) c.show_rows.ensures.drawn ∙ c.into_rows-features.ensures.drawn ∙ kept_where (keeps_drawn of) (first_parts (uncleared_drawn (without_places entries))) c.args.image.drawn draws is.drawn

@@ -1,5 +1,5 @@
-use Rattle.std.proofs.Common.{◌≤◌, ◌∙◌, sym, subst, ℤ, ◌-ℤ◌, ◌*ℤ◌, unsigned_abs}
-use Rattle.pad_shapes.proofs.EdgesLemmas.{difference, far_difference, fits_difference, difference_of_products, difference_bound}
+use Rattle.std.proofs.Common.{◌≤◌, ◌∙◌, sym, subst, ap, ℤ, ◌-ℤ◌, unsigned_abs}
+use Rattle.pad_shapes.proofs.EdgesLemmas.{fits_difference, difference_of_products, difference_bound, product_is}
 use Rattle.pad_shapes.proofs.edges.cross.Goals as goal
 
 pub overflow_sub-result : goal.overflow_sub-result
@@ -7,12 +7,9 @@ overflow_sub-result c = fits_difference c.product.result c.product-2.result c.pr
 
 pub returns-clause-value : goal.returns-clause-value
 returns-clause-value c =
-    let to_x = difference c.x.result c.x-2.result _ _ c.x.ensures.value c.x-2.ensures.value c.x.ensures.in_range c.x-2.ensures.in_range in
-    let point_y = far_difference c.y.result c.y-2.result _ _ c.y.ensures.value c.y-2.ensures.value c.y.ensures.in_range c.y-2.ensures.in_range in
-    let to_y = difference c.y-3.result c.y-4.result _ _ c.y-3.ensures.value c.y-4.ensures.value c.y-3.ensures.in_range c.y-4.ensures.in_range in
-    let point_x = far_difference c.x-3.result c.x-4.result _ _ c.x-3.ensures.value c.x-4.ensures.value c.x-3.ensures.in_range c.x-4.ensures.in_range in
-    difference_of_products c.product.result c.product-2.result c.product.ensures.small c.product-2.ensures.small
-    ∙ (λ i. (c.product.ensures.value ∙ (λ j. to_x j *ℤ point_y j)) i -ℤ (c.product-2.ensures.value ∙ (λ j. to_y j *ℤ point_x j)) i)
+    let left = product_is c.product.result _ _ _ _ c.step-dx.ensures.small.0 c.step_to-x.ensures.small.1 (ap (λ (v : ℤ × ℤ). v.0) c.step-dx.ensures.value) (ap (λ (v : ℤ × ℤ). v.1) c.step_to-x.ensures.value) c.product.ensures.value in
+    let right = product_is c.product-2.result _ _ _ _ c.step-dx.ensures.small.1 c.step_to-x.ensures.small.0 (ap (λ (v : ℤ × ℤ). v.1) c.step-dx.ensures.value) (ap (λ (v : ℤ × ℤ). v.0) c.step_to-x.ensures.value) c.product-2.ensures.value in
+    difference_of_products c.product.result c.product-2.result c.product.ensures.small c.product-2.ensures.small ∙ (λ i. left i -ℤ right i)
 
 pub returns-clause-small : goal.returns-clause-small
 returns-clause-small c =

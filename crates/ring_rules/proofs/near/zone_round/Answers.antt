@@ -1,4 +1,4 @@
-use Rattle.ring_rules.proofs.Common.{arith, ints, abs_diff, ap, ◌∙◌, ◌≡◌, GridPoint, ℤ, pos, ◌-ℤ◌, ◌+ℤ◌, int_min, int_max, to_z, of_z, w64}
+use Rattle.ring_rules.proofs.Common.{arith, ints, abs_diff, ap, ◌∙◌, ◌≡◌, GridPoint, pos, ◌-ℤ◌, ◌+ℤ◌, int_min, int_max, to_z, of_z, w64}
 use Rattle.ring_rules.proofs.NearLemmas.{starts_near, passed_is}
 use Rattle.ring_rules.proofs.near.zone_round.Goals as goal
 

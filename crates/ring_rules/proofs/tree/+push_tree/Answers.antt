@@ -1,4 +1,4 @@
-use Rattle.ring_rules.proofs.Common.{◌≡◌, ◌+◌, ◌<◌, length, ap, ◌∙◌, arith, length_push, HoldsRun, Node}
+use Rattle.ring_rules.proofs.Common.{◌≡◌, ◌+◌, ◌<◌, length, ◌∙◌, arith, Node}
 use Rattle.ring_rules.proofs.TreeLemmas.{holds_both, nodes_set}
 use Rattle.ring_rules.proofs.tree.+push_tree.Goals as goal
 
@@ -9,7 +9,7 @@ returns-clause-nodes t c =
     let node : Node = record { run = c.args.run; zone = c.joined-zone.result; end = c.len-end.result } in
     let same : c.len-at.result ≡ length c.args.nodes.now.items = c.len-at.ensures ∙ c.args.nodes.now.ok.0 in
     let last : c.len-end.result ≡ length c.push_tree-2.new.nodes.items = c.len-end.ensures ∙ c.push_tree-2.new.nodes.ok.0 in
-    let low : c.len-at.result < length c.push.new.self.items = (let e = ap length c.in_ok-push.ensures.items in let l = length_push c.args.nodes.now.items (record { run = record { start = 0; end = 0 }; zone = c.no_zone.result; end = c.len-at.result + 1 }) in omega (arith, e, l, same)) in
+    let low : c.len-at.result < length c.push.new.self.items = omega (arith, same, c.in_ok-push.ensures.len, c.push.new.self.ok.0, c.args.nodes.now.ok.0) in
     let inside : c.len-at.result < length c.push_tree-2.new.nodes.items = omega (arith, low, c.in_ok-first.ensures.longer, c.in_ok-second.ensures.longer) in
     nodes_set spots c.push_tree-2.new.nodes.items c.len-at.result node c.in_ok-second.ensures.nodes
     (record {

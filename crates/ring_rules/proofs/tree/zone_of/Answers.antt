@@ -1,4 +1,4 @@
-use Rattle.ring_rules.proofs.Common.{◌≡◌, inl, inr, sym, ap, subst, ◌∙◌, arith, cases_lt, IsInZone, point_at}
+use Rattle.ring_rules.proofs.Common.{◌≡◌, inl, inr, ap, subst, ◌∙◌, arith, cases_lt, IsInZone, point_at}
 use Rattle.ring_rules.proofs.tree.zone_of.Goals as goal
 
 pub loop-i-preserved : goal.loop-i-preserved

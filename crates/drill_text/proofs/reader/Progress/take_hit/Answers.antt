@@ -1,5 +1,6 @@
-use Rattle.drill_text.proofs.Common.{◌≡◌, ◌≤◌, ◌+◌, ℕ, suc, false, List, [], ◌∷◌, ◌++◌, length, take, map, Some, Ok, Err, sym, ap, subst, ◌∙◌, refl, arith, append_assoc, length-append, take_at, err_from_is_err_and, IfFault, with_place, Coordinates, Settings, Hit, without_end_blanks, ReadsLine, Keep, Progress, HasLeadingHit, meaning, bytes_of, settings_after, rule_in, Kind, checked_by, spelled_in, Holds, Refuses}
+use Rattle.drill_text.proofs.Common.{◌≡◌, ◌≤◌, ◌+◌, ℕ, suc, List, [], ◌∷◌, ◌++◌, length, take, map, Some, Ok, Err, sym, ap, subst, ◌∙◌, refl, arith, append_assoc, length-append, take_at, err_from_is_err_and, IfFault, with_place, Coordinates, Settings, Hit, without_end_blanks, ReadsLine, Keep, Progress, HasLeadingHit, meaning, bytes_of, settings_after, rule_in, Kind, checked_by, spelled_in, Holds, Refuses}
 use Rattle.drill_lines.specs.declared.command.Part.TheVariants as part
+use Rattle.drill_lines.specs.declared.route.Machine.TheVariants as machine
 use Rattle.drill_lines.specs.declared.route.Route.TheVariants as route
 use Rattle.drill_lines.proofs.RouteLemmas.{drilling_line}
 use Rattle.drill_text.proofs.ProfileLemmas.{spelled_in_is}
@@ -16,7 +17,7 @@ prefix s point len bytes h =
     sym (ap (take (len + 1)) whole ∙ take_at (h.line ++ 10 ∷ []) h.more (len + 1) count)
 
 -- the line spells the hit in each profile, and the reader of lines stays as it is
-reads_hit : (old : Progress) (point : Coordinates) (len : ℕ) (bytes : List ℕ) (leads : HasLeadingHit old.state.settings point len bytes) (p : Kind) (keep : Keep) (text : List ℕ) (h : Holds old p keep text) → old.state.settings.part ≡ part.Body → old.reader.route ≡ route.Free false
+reads_hit : (old : Progress) (point : Coordinates) (len : ℕ) (bytes : List ℕ) (leads : HasLeadingHit old.state.settings point len bytes) (p : Kind) (keep : Keep) (text : List ℕ) (h : Holds old p keep text) → old.state.settings.part ≡ part.Body → old.reader.route ≡ route.Free machine.Drilling
     → ReadsLine (Ok (Some (Hit point))) old.reader p.profile (settings_after h.commands) (map without_end_blanks h.lines) (without_end_blanks leads.line)
 reads_hit old point len bytes leads p keep text h body drilling =
     let settings = settings_are old.state p.plating h.commands h.has_read.has_read.is_state in
@@ -24,7 +25,7 @@ reads_hit old point len bytes leads p keep text h body drilling =
     (subst (λ (s : Settings). meaning s (without_end_blanks leads.line) ≡ Ok (Some (Hit point))) settings (leads.spells body))
 
 -- it is judged as the hit
-judged : (old : Progress) (point : Coordinates) (len : ℕ) (bytes : List ℕ) (leads : HasLeadingHit old.state.settings point len bytes) (p : Kind) (keep : Keep) (text : List ℕ) (h : Holds old p keep text) → old.state.settings.part ≡ part.Body → old.reader.route ≡ route.Free false
+judged : (old : Progress) (point : Coordinates) (len : ℕ) (bytes : List ℕ) (leads : HasLeadingHit old.state.settings point len bytes) (p : Kind) (keep : Keep) (text : List ℕ) (h : Holds old p keep text) → old.state.settings.part ≡ part.Body → old.reader.route ≡ route.Free machine.Drilling
     → spelled_in p h.lines leads.line h.commands ≡ with_place (old.lines + 1) old.start (checked_by (rule_in p.plating) h.commands (Some (Hit point)))
 judged old point len bytes leads p keep text h body drilling =
     let short : length leads.line ≤ 1048576 = omega (arith, leads.count, leads.short) in

@@ -1,10 +1,8 @@
 -- The fast path shows that no rule applies, and what the flash leaves.
-use Rattle.layer_state.proofs.Common.{arith, rules, ◌≡◌, ℤ, Option, unwrap_or, FitsSigned, to_z, of_z, nat_le, unsigned_abs, ap, sym, ◌∙◌, to_z-of_z, w64, GridPoint, point_of, flash_count, state_of, moved_what}
+use Rattle.layer_state.proofs.Common.{arith, rules, FitsSigned, nat_le, unsigned_abs, ap, sym, ◌∙◌, w64, GridPoint, point_of, flash_count, state_of, moved_what}
 use Rattle.layer_state.proofs.FastOperations.{flash_is_legal}
+use Rattle.layer_state.proofs.SumLemmas.{named}
 use Rattle.layer_state.proofs.cached.CachedState.flash.Goals as goal
-
-named : (o : Option ℤ) (r x : ℤ) → FitsSigned w64 r → FitsSigned w64 x → r ≡ unwrap_or o (to_z w64 (of_z w64 x)) → to_z w64 (of_z w64 r) ≡ unwrap_or o x
-named o r x f g h = to_z-of_z w64 r f ∙ h ∙ ap (unwrap_or o) (to_z-of_z w64 x g)
 
 pub returns : goal.returns
 returns c =

@@ -1,16 +1,14 @@
 -- Each coordinate is the one that is named, else the last one.
-use Rattle.layer_state.proofs.Common.{rules, arith, ◌≡◌, ◌≤◌, ◌^◌, unsigned_abs, ℤ, ℕ, FitsSigned, to_z, of_z, ◌∙◌, ap, unwrap_or, Option, to_z-of_z, w128, w64, picometres, back_128}
+use Rattle.layer_state.proofs.Common.{rules, arith, ◌≡◌, ◌≤◌, ◌^◌, unsigned_abs, ℤ, ℕ, FitsSigned, to_z, of_z, ◌∙◌, w128, w64, picometres, back_128}
 use Rattle.grid_units.specs.declared.lengths.Unit.{Unit as Units}
 use Rattle.layer_state.specs.Numbers.{dec_length}
+use Rattle.layer_state.proofs.SumLemmas.{named}
 use Rattle.layer_state.proofs.state.State.grid.Goals as goal
 
 -- a length that was computed of a number in 64 bits
 axis : (unit other : Units) (decimals places : ℕ) (r n m : ℤ) → unit ≡ other → decimals ≡ places → to_z w64 (of_z w64 n) ≡ m → r ≡ picometres unit decimals (to_z w64 (of_z w64 n)) → unsigned_abs r ≤ 2 ^ 98
     → to_z w128 (of_z w128 r) ≡ picometres other places m
 axis unit other decimals places r n m a b e h l = back_128 r l ∙ h ∙ (λ i. picometres (a i) (b i) (e i))
-
-named : (o : Option ℤ) (r x : ℤ) → FitsSigned w64 r → FitsSigned w64 x → r ≡ unwrap_or o (to_z w64 (of_z w64 x)) → to_z w64 (of_z w64 r) ≡ unwrap_or o x
-named o r x f g h = to_z-of_z w64 r f ∙ h ∙ ap (unwrap_or o) (to_z-of_z w64 x g)
 
 pub returns-clause-value : goal.returns-clause-value
 returns-clause-value c =

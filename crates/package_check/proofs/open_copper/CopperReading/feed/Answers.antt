@@ -2,13 +2,14 @@ use Rattle.package_check.proofs.Common.{◌++◌, refl, subst, HasReadCopper}
 use Rattle.manifest.specs.declared.Role.TheVariants as role
 use Rattle.package_check.specs.declared.open_copper.CopperReading.{CopperReading}
 use Rattle.package_check.proofs.CopperPieces.{no_span}
-use Rattle.package_check.proofs.OpenFiles.{also_on, layer_errs}
+use Rattle.std.proofs.lemmas.Result.{on_ok_weaker}
+use Rattle.package_check.proofs.OpenFiles.{layer_errs}
 use Rattle.package_check.proofs.open_copper.CopperReading.feed.Goals as goal
 
 pub returns-in-Layer-clause-ok : goal.returns-in-Layer-clause-ok
 returns-in-Layer-clause-ok c = λ span layers text h.
     let was = subst (λ (r : CopperReading). HasReadCopper c.args.holes.now c.args.layer span layers r text) c.in-Layer.is h in
-    also_on _ c.feed.result was.0 (c.feed.ensures.ok text was.1)
+    on_ok_weaker c.feed.result (λ read. (was.0, read)) (c.feed.ensures.ok text was.1)
 
 pub returns-in-Layer-clause-err : goal.returns-in-Layer-clause-err
 returns-in-Layer-clause-err c = λ span layers text h.

@@ -1,12 +1,13 @@
 use Rattle.package_check.proofs.Common.{◌++◌, [], subst, drill_kind, HasReadText, copper_keep, mixed_in}
 use Rattle.package_check.specs.declared.open_file.Reading.{Reading}
-use Rattle.package_check.proofs.OpenFiles.{and_on, drill_errs, layer_errs, mixed_errs}
+use Rattle.std.proofs.lemmas.Result.{on_ok_weaker}
+use Rattle.package_check.proofs.OpenFiles.{drill_errs, layer_errs, mixed_errs}
 use Rattle.package_check.proofs.open_file.Reading.feed.Goals as goal
 
 pub returns-in-Layer-clause-ok : goal.returns-in-Layer-clause-ok
 returns-in-Layer-clause-ok c = λ keep of span setting text h.
     let was = subst (λ (r : Reading). HasReadText keep of span setting r text) c.in-Layer.is h in
-    and_on _ c.feed.result was.0 was.1 (c.feed.ensures.ok setting.profile (copper_keep keep) [] text was.2)
+    on_ok_weaker c.feed.result (λ read. (was.0, was.1, read)) (c.feed.ensures.ok setting.profile (copper_keep keep) [] text was.2)
 
 pub returns-in-Layer-clause-err : goal.returns-in-Layer-clause-err
 returns-in-Layer-clause-err c = λ keep of span setting text h.
@@ -16,7 +17,7 @@ returns-in-Layer-clause-err c = λ keep of span setting text h.
 pub returns-in-Drill-clause-ok : goal.returns-in-Drill-clause-ok
 returns-in-Drill-clause-ok c = λ keep of span setting text h.
     let was = subst (λ (r : Reading). HasReadText keep of span setting r text) c.in-Drill.is h in
-    and_on _ c.feed-in-Drill.result was.0 was.1 (c.feed-in-Drill.ensures.ok (drill_kind setting.profile c.in-Drill.plated) _ text was.2)
+    on_ok_weaker c.feed-in-Drill.result (λ read. (was.0, was.1, read)) (c.feed-in-Drill.ensures.ok (drill_kind setting.profile c.in-Drill.plated) _ text was.2)
 
 pub returns-in-Drill-clause-err : goal.returns-in-Drill-clause-err
 returns-in-Drill-clause-err c = λ keep of span setting text h.
@@ -26,7 +27,7 @@ returns-in-Drill-clause-err c = λ keep of span setting text h.
 pub returns-in-Mixed-clause-ok : goal.returns-in-Mixed-clause-ok
 returns-in-Mixed-clause-ok c = λ keep of span setting text h.
     let was = subst (λ (r : Reading). HasReadText keep of span setting r text) c.in-Mixed.is h in
-    and_on _ c.feed-in-Mixed.result was.0 was.1 (c.feed-in-Mixed.ensures.ok (mixed_in setting.profile) _ text was.2)
+    on_ok_weaker c.feed-in-Mixed.result (λ read. (was.0, was.1, read)) (c.feed-in-Mixed.ensures.ok (mixed_in setting.profile) _ text was.2)
 
 pub returns-in-Mixed-clause-err : goal.returns-in-Mixed-clause-err
 returns-in-Mixed-clause-err c = λ keep of span setting text h.

@@ -1,5 +1,5 @@
 use Rattle.layer_state.proofs.Common.{arith, ints}
-use Rattle.layer_state.proofs.size.Side.half.Goals as goal
+use Rattle.layer_state.proofs.size.half_of.Goals as goal
 
 pub returns-in-Inch : goal.returns-in-Inch
 returns-in-Inch c = grind (arith, ints)
