@@ -1,8 +1,7 @@
 -- 1, 2 and 5 times powers of ten.
-use Rattle.std.proofs.Common.{◌≡◌, ◌≤◌, ◌<◌, ◌*◌, ◌^◌, ◌⊎◌, inl, inr, ℕ, suc, arith, refl, sym, subst, ap}
+use Rattle.drawing.proofs.Common.{◌≡◌, ◌≤◌, ◌<◌, ◌*◌, ◌^◌, ◌⊎◌, inl, inr, ℕ, suc, arith, refl, sym, subst, ap, IsBar, IsRound}
 use Rattle.std.proofs.lemmas.Bool.{cases_lt}
 use Rattle.std.proofs.Math.Nat.{pow-le-pow_right}
-use Rattle.drawing.specs.Layouts.{IsBar, IsRound}
 
 -- ten times a power of ten is at most a greater one
 tens : (j k : ℕ) → j < k → 10 * 10 ^ j ≤ 10 ^ k

@@ -1,11 +1,8 @@
 -- The extent of some elements and one more.
-use Rattle.std.proofs.Common.{◌≡◌, ◌<◌, ◌+◌, ◌++◌, ℕ, List, [], ◌∷◌, Option, length, take, get_or, map, ap, sym, ◌∙◌, append-nil}
-use Rattle.std.specs.List.{flat_map, fold}
-use Rattle.std.proofs.lemmas.List.{take_more}
+use Rattle.drawing.proofs.Common.{◌≡◌, ◌<◌, ◌+◌, ◌++◌, ℕ, List, [], ◌∷◌, Option, length, take, get_or, map, ap, sym, ◌∙◌, append-nil, flat_map, fold, take_more, GridExtent, joined_to}
 use Rattle.std.proofs.lemmas.List.Folds.{fold-map}
 use Rattle.std.proofs.lemmas.List.Sums.{fold_more, fold-append}
 use Rattle.std.proofs.lemmas.List.Concat.{flat_map-append}
-use Rattle.drawing.specs.Boxes.{GridExtent, joined_to}
 
 -- with one more element
 pub extent_more : {X : Type 0} (f : X → GridExtent) (before : Option GridExtent) (xs : List X) (i : ℕ) (d : X) → i < length xs

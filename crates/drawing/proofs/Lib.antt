@@ -1,3 +1,4 @@
+pub mod Common
 pub mod BarLemmas
 pub mod ExtentLemmas
 pub mod PanelLists

@@ -1,7 +1,5 @@
 -- Panels one after the other.
-use Rattle.std.proofs.Common.{◌≡◌, ◌<◌, ◌+◌, ◌++◌, ℕ, List, [], ◌∷◌, length, take, get_or, sym, subst}
-use Rattle.std.specs.List.{AllZip, enumerate_from}
-use Rattle.ring_rules.proofs.EnumeratedLists.{enumerated_more}
+use Rattle.drawing.proofs.Common.{◌≡◌, ◌<◌, ◌+◌, ◌++◌, ℕ, List, [], ◌∷◌, length, take, get_or, sym, subst, AllZip, enumerate_from, enumerated_more}
 
 module _ {A B : Type 0} (R : A → B → Type 0) where
   zip_more : (xs : List A) (ys : List B) (x : A) (y : B) → AllZip R xs ys → R x y → AllZip R (xs ++ x ∷ []) (ys ++ y ∷ [])

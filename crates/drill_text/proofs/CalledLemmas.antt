@@ -1,24 +1,18 @@
 -- What the holes of a mixed file are called, and what is listed of them.
-use Rattle.drill_text.proofs.Common.{◌≡◌, ℕ, suc, Bool, true, false, cond, ◌&&◌, ◌||◌, List, [], ◌∷◌, ◌++◌, length, Option, None, Some, is_some, unwrap_or, refl, sym, ap, ◌∙◌, cons_option, filter, filter_map, flat_map, list_any, AllZip, option_and_then, option_map, last_set, violation_at, with_prefixes_from, Reason, NoPlating, DrillCommand, holes_at, ends_header, tool_set, IsCalled, is_plated, is_unsaid, lacks_plating, plated_at, plating_after, plating_of_tool, plating_rule, plating_set, drills}
+use Rattle.drill_text.proofs.Common.{and_false_right, or_is_false, ◌≡◌, ℕ, suc, Bool, true, false, cond, ◌&&◌, List, [], ◌∷◌, ◌++◌, length, Option, None, Some, is_some, unwrap_or, refl, sym, ap, ◌∙◌, filter, filter_map, flat_map, list_any, AllZip, option_and_then, last_set, violation_at, with_prefixes_from, NoPlating, Redefined, DrillCommand, holes_at, ends_header, tool_set, IsCalled, is_plated, is_unsaid, lacks_plating, plated_at, plating_after, plating_of_tool, plating_rule, plating_set, redefines_plating, said_after, drills}
 use Rattle.drill_lines.specs.declared.command.DrillCommand.TheVariants as command
 use Rattle.drill_lines.specs.declared.plating.Plating.{Plating}
 use Rattle.drill_lines.specs.declared.plating.Plating.TheVariants.{Plated, Unplated, Unsaid}
 use Rattle.drill_text.specs.MixedLaws.{CalledIsListed, ListedIsCalled, OneForEach}
+use Rattle.drill_text.proofs.SpellsTextLemmas.{legal_parts}
 
 -- ---- one hole
 
 -- a rule that is kept is not broken
-kept : (t : Bool) → cond t (Some NoPlating) None ≡ None → t ≡ false
-kept true e = absurd cc
-kept false e = refl
-
-first_false : (s t : Bool) → (s || t) ≡ false → s ≡ false
-first_false true t e = absurd cc
-first_false false t e = refl
-
-second_false : (s t : Bool) → s ≡ true → (s && t) ≡ false → t ≡ false
-second_false true t is e = e
-second_false false t is e = absurd cc
+kept : (s t : Bool) → cond s (Some Redefined) (cond t (Some NoPlating) None) ≡ None → t ≡ false
+kept true t e = absurd cc
+kept false true e = absurd cc
+kept false false e = refl
 
 called_tool : (before : List DrillCommand) (o : Option ℕ) (q : Option Plating) → last_set tool_set before ≡ o → option_and_then (plating_of_tool before) o ≡ q → is_unsaid (unwrap_or q Unsaid) ≡ false → IsCalled before (is_plated (unwrap_or q Unsaid))
 called_tool before None None is e h = absurd cc
@@ -30,8 +24,8 @@ called_tool before (Some tool) (Some Unsaid) is e h = absurd cc
 
 called_now : (before : List DrillCommand) (c : DrillCommand) → drills c ≡ true → plating_rule before c ≡ None → IsCalled before (is_plated (plating_after before))
 called_now before c drilled legal =
-    let said = first_false (drills c && is_unsaid (plating_after before)) (is_some (plating_set c) && list_any ends_header before) (kept (lacks_plating before c) legal) in
-    called_tool before (last_set tool_set before) (option_and_then (plating_of_tool before) (last_set tool_set before)) refl refl (second_false (drills c) (is_unsaid (plating_after before)) drilled said)
+    let said = or_is_false (drills c && is_unsaid (plating_after before)) (is_some (plating_set c) && list_any ends_header before) (kept (redefines_plating (said_after before) (plating_of_tool before) c) (lacks_plating before c) legal) in
+    called_tool before (last_set tool_set before) (option_and_then (plating_of_tool before) (last_set tool_set before)) refl refl (and_false_right (drills c) (is_unsaid (plating_after before)) drilled said.0)
 
 listed_now : (before : List DrillCommand) (plated : Bool) → IsCalled before plated → plated ≡ is_plated (plating_after before)
 listed_now before true h = sym (ap (λ o. is_plated (unwrap_or (option_and_then (plating_of_tool before) o) Unsaid)) h.tool_picked ∙ ap (λ o. is_plated (unwrap_or o Unsaid)) h.called)
@@ -45,10 +39,6 @@ AreCalledAfter before cs plated = AllZip (λ (p : List DrillCommand × DrillComm
 
 plated_from : List DrillCommand → List DrillCommand → List Bool
 plated_from before cs = flat_map (λ (p : List DrillCommand × DrillCommand). plated_at p.0 p.1) (with_prefixes_from before cs)
-
-legal_parts : (n : ℕ) (o : Option Reason) (rest : List (ℕ × Reason)) → cons_option (option_map (λ (r : Reason). (n, r)) o) rest ≡ [] → (o ≡ None) × (rest ≡ [])
-legal_parts n None rest e = (refl, e)
-legal_parts n (Some r) rest e = absurd cc
 
 called_from : (before cs : List DrillCommand) → filter_map (violation_at plating_rule) (with_prefixes_from before cs) ≡ [] → AreCalledAfter before cs (plated_from before cs)
 unfolding AreCalledAfter plated_from

@@ -23,16 +23,16 @@ pub use Rattle.drill_text.specs.Grammar.{AreEntries, IsEntry, IsText, lines_of}
 pub use Rattle.drill_text.specs.Holding.{Advances, HasFault, Holds, Refuses, RefusesText}
 pub use Rattle.drill_text.specs.Holes.{DrillPath, coordinate_in, diameter_after, hole_of, holes_at, holes_of, path_at, point_at, unit_after, unit_or}
 pub use Rattle.drill_text.specs.Inner.FastPath.{HasLeadingHit, HasLineEnd, IsLeadingRun, MayLead}
-pub use Rattle.drill_text.specs.Inner.StateSteps.{Applies, AppliesOrRefuses, AreWordsAfter, DrillsOrRefuses, IsStateAfter, IsWidth, after, drill_path, given_last, heard, hole_between, hole_in, hole_rule, mark_of, at_last_point, no_point, own_broken, path_between, picked_plating, plating_in, point_in, resolved_point, settings_with, state_of}
+pub use Rattle.drill_text.specs.Inner.StateSteps.{Applies, AppliesOrRefuses, AreWordsAfter, DrillsOrRefuses, IsStateAfter, IsWidth, after, broken_in, drill_path, given_last, heard, hole_between, hole_in, hole_rule, mark_of, at_last_point, no_point, own_broken, own_in, path_between, picked_plating, plates_otherwise, plating_in, point_in, resolved_point, settings_with, state_of}
 pub use Rattle.drill_text.specs.Keeping.{HasReadIn, ResultsIn, ResultsInLine}
 pub use Rattle.drill_text.specs.Laws.{DrilledHolesAreListed, DrillsAtMostOneList, IsTextOfAtMostOne, IsWithinLimits, ListedHolesAreDrilled, ReadIsWritten, SpelledIsWritten, WideHolesAreDrilled, WrittenIsRead}
 pub use Rattle.drill_text.specs.Lines.{HasNoBreak, Splits, bytes_of, ended_line}
-pub use Rattle.drill_text.specs.Lookback.{StateView, diameter_set, ends_header, format_set, header, part_after, part_set, points_in, points_of, settings_after, state_after, tool_defined, tool_set, tools_of, unit_set, x_set, y_set, zeros_set}
+pub use Rattle.drill_text.specs.Lookback.{StateView, diameter_set, ends_header, format_set, header, part_after, part_set, points_in, points_of, settings_after, state_after, tool_set, tools_at, tools_of, unit_set, x_set, y_set, zeros_set}
 pub use Rattle.drill_text.specs.Outcome.{DrillFile, commands_in, diameter_of_tool, diameters, file_of, kept_platings}
-pub use Rattle.drill_text.specs.Plating.{IsCalled, calls_plated, calls_unplated, contradiction_rule, is_plated, is_unsaid, lacks_plating, own_rule, plated_at, plating_after, plating_of_tool, plating_rule, plating_set, rule_in, said_after, tool_made}
-pub use Rattle.drill_text.specs.Profiles.{Kind, Reads, ReadsAsBy, ReadsAsIn, ReadsBy, ReadsIn, Shows, ShowsBy, add_unless, commands_with, checked_by, commands_by, commands_at_end, is_finish, place_after, place_after_count, plain, read_by, shown_by, shown_within, spelled_in, with_rest}
+pub use Rattle.drill_text.specs.Plating.{IsCalled, calls_plated, calls_unplated, contradiction_rule, is_plated, is_unsaid, lacks_plating, own_rule, plated_at, plating_after, plating_of_tool, plating_rule, plating_set, redefines_plating, rule_in, said_after, tool_made}
+pub use Rattle.drill_text.specs.Profiles.{Kind, Reads, ReadsAsBy, ReadsAsIn, ReadsBy, ReadsIn, Shows, ShowsBy, add_unless, checked_by, commands_by, commands_at_end, is_finish, place_after, place_after_count, plain, read_by, shown_by, shown_within, spelled_in, with_rest}
 unfoldable pub use Rattle.drill_text.specs.Profiles.{step_in}
-pub use Rattle.drill_text.specs.Rules.{applies, broken_rule, drills, has_bad_size, has_no_tool, lacks_unit, max_holes, redefines_tool}
+pub use Rattle.drill_text.specs.Rules.{applies, broken_rule, broken_rule_in, defines_alike, drills, first_broken_in, has_bad_size, has_no_tool, lacks_unit, max_holes, redefines_tool}
 unfoldable pub use Rattle.drill_text.specs.Rules.{first_broken, width_with}
 pub use Rattle.drill_text.specs.Texts.{AreWithinLimit, IsDrillText, ReadsAs, SpellsText, spelled_after}
 pub use Rattle.drill_text.specs.Writing.{are_sayable, canonical_lines, drill_sayable, is_after_end, part_from, part_with, vec_bytes, rewritten_text}
@@ -42,7 +42,7 @@ pub use Rattle.drill_text.specs.declared.platings.PlatingKind.{PlatingKind}
 pub use Rattle.drill_text.specs.declared.platings.PlatingKind.TheVariants.{Stated}
 pub use Rattle.drill_text.specs.declared.reader.Progress.{Progress}
 pub use Rattle.drill_text.specs.declared.state.DrillState.{DrillState}
-pub use Rattle.grid_units.proofs.BoolLemmas.{and_false, and_true, both_true}
+pub use Rattle.grid_units.proofs.BoolLemmas.{and_false, and_false_right, and_true, both_true, not_true, or_is_false}
 pub use Rattle.grid_units.proofs.LookbackLemmas.{flat_positions-more, last_or-more, last_set-append, last_set-more, list_any-more, option_or_assoc, option_or_none, unwrap_or_or, violations-append, violations-more, with_prefixes-append}
 pub use Rattle.grid_units.proofs.ResultLemmas.{bind_Ok, bind_assoc, bind_cong, bind_err, bind_ok, guard_err, guard_ok}
 pub use Rattle.grid_units.specs.Holes.{GridHole}
@@ -57,6 +57,7 @@ pub use Rattle.grid_units.specs.declared.fault.Reason.{Reason}
 pub use Rattle.grid_units.specs.declared.fault.Reason.TheVariants.{BadLine, BadSize, FormatConflict, NoPlating, NoTool, NoUnit, PlatingConflict, Redefined, Routed, TooFar, TooLong, TooManyHoles, Truncated, UnitConflict, UnknownTool}
 pub use Rattle.grid_units.specs.declared.item_fail.ItemFail.{ItemFail}
 pub use Rattle.grid_units.specs.declared.lengths.Unit.TheVariants.{Inch, Millimetre}
+pub use Rattle.grid_units.specs.declared.profile.Profile.{Profile}
 pub use Rattle.grid_units.specs.declared.profile.Profile.TheVariants.{Strict, Wide}
 pub use Rattle.indexmap.specs.IndexMap.{get}
 pub use Rattle.std.proofs.Math.Seq.{drop-cons, take-add, take-suc}

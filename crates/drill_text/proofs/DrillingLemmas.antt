@@ -1,11 +1,13 @@
 -- The holes that are listed of commands, and those that the commands drill.
-use Rattle.drill_text.proofs.Common.{◌≡◌, ℕ, ℤ, ◌*◌, ◌/◌, pos, unsigned_abs, Bool, true, false, cond, List, [], ◌∷◌, ◌++◌, length, Option, None, Some, is_some, is_none, refl, sym, ap, subst, ◌∙◌, arith, int_le, list_any, filter, filter_map, flat_map, find, cons_option, AllByRecursion, AllZip, option_and_then, option_map, ints, Reason, BadSize, Inch, Millimetre, picometres, last_set, with_prefixes_from, violation_at, IsLegal, GridHole, both_true, Coordinates, Part, DrillCommand, is_sayable, StateView, state_after, part_after, header, ends_header, unit_set, tool_set, diameter_set, points_of, DrillPath, unit_or, unit_after, coordinate_in, point_at, diameter_after, path_at, hole_of, holes_at, holes_of, drills, applies, first_broken, broken_rule, lacks_unit, has_bad_size, part_with, part_from, are_sayable, is_after_end, ListedHolesAreDrilled, DrilledHolesAreListed, DrillsAtMostOneList, given_last}
+use Rattle.drill_text.proofs.Common.{◌≡◌, ℕ, ℤ, ◌*◌, ◌/◌, pos, unsigned_abs, Bool, true, false, List, [], ◌∷◌, ◌++◌, length, Option, None, Some, is_some, is_none, refl, sym, ap, subst, ◌∙◌, arith, int_le, list_any, filter, filter_map, flat_map, AllZip, option_and_then, ints, BadSize, Inch, Millimetre, picometres, last_set, with_prefixes_from, violation_at, IsLegal, Profile, Strict, GridHole, both_true, Coordinates, Part, DrillCommand, is_sayable, StateView, state_after, part_after, header, ends_header, unit_set, tool_set, diameter_set, points_of, DrillPath, unit_or, unit_after, coordinate_in, point_at, diameter_after, path_at, hole_of, holes_at, holes_of, drills, applies, defines_alike, first_broken, first_broken_in, broken_rule_in, lacks_unit, has_bad_size, part_with, part_from, are_sayable, is_after_end, ListedHolesAreDrilled, DrilledHolesAreListed, DrillsAtMostOneList, given_last}
 use Rattle.grid_units.specs.declared.lengths.Unit.{Unit as Units}
 use Rattle.drill_lines.specs.declared.command.Part.TheVariants as part
 use Rattle.drill_lines.specs.declared.command.DrillCommand.TheVariants as command
 use Rattle.drill_text.specs.Rules.{rules}
 use Rattle.drill_text.specs.Drilling.{IsPath, IsHoleOf, AreHoles}
 use Rattle.drill_text.proofs.Lookbacks.{header-more}
+use Rattle.drill_text.proofs.HoleLines.{none_found, same_rules}
+use Rattle.drill_text.proofs.SpellsTextLemmas.{legal_parts}
 use Rattle.drill_text.proofs.RoundTrip.{part_more}
 use Rattle.drill_text.proofs.TextIsSayable.{text_sayable}
 
@@ -88,11 +90,6 @@ stays_named ended None (Some x) e = refl
 stays_named true (Some y) (Some x) e = refl
 stays_named false (Some y) (Some x) e = refl
 
--- the header ends only where a unit is named
-unit_at_end : (s : StateView) (c : DrillCommand) → lacks_unit s c ≡ false → ends_header c ≡ true → is_some s.settings.unit ≡ true
-unit_at_end s command.HeaderEnd lacks ends = some_unless s.settings.unit lacks
-unit_at_end s c lacks ends = absurd cc
-
 in_body : (p : Part) (o : Option Units) (c : DrillCommand) → (p ≡ part.Body → is_some o ≡ true) → (ends_header c ≡ true → is_some o ≡ true) → part_with p c ≡ part.Body → is_some o ≡ true
 in_body p o command.HeaderEnd h k e = k refl
 in_body p o command.Start h k e = absurd cc
@@ -105,26 +102,13 @@ AreInBody p [] = Unit {0}
 AreInBody p (c ∷ cs) = (drills c ≡ true → p ≡ part.Body) × AreInBody (part_with p c) cs
 
 -- what stands before the commands that are left, and what is known of these
-record IsLeft (before cs : List DrillCommand) : Type 0 where
+record IsLeft (profile : Profile) (before cs : List DrillCommand) : Type 0 where
   unit : part_after before ≡ part.Body → is_some (last_set unit_set (header before)) ≡ true
-  legal : filter_map (violation_at broken_rule) (with_prefixes_from before cs) ≡ []
+  legal : filter_map (violation_at (broken_rule_in profile)) (with_prefixes_from before cs) ≡ []
   stands : AreInBody (part_after before) cs
 
-legal_parts : (n : ℕ) (o : Option Reason) (rest : List (ℕ × Reason)) → cons_option (option_map (λ (r : Reason). (n, r)) o) rest ≡ [] → (o ≡ None) × (rest ≡ [])
-legal_parts n None rest e = (refl, e)
-legal_parts n (Some r) rest e = absurd cc
-
-legal_now : (before cs : List DrillCommand) (c : DrillCommand) → IsLeft before (c ∷ cs) → (broken_rule before c ≡ None) × (filter_map (violation_at broken_rule) (with_prefixes_from (before ++ c ∷ []) cs) ≡ [])
-legal_now before cs c left = legal_parts (length before) (broken_rule before c) (filter_map (violation_at broken_rule) (with_prefixes_from (before ++ c ∷ []) cs)) left.legal
-
--- where no element is found, each fails the test
-fails_first : {A : Type 0} (t : Bool) (x : A) (rest : Option A) → cond t (Some x) rest ≡ None → (t ≡ false) × (rest ≡ None)
-fails_first true x rest e = absurd cc
-fails_first false x rest e = (refl, e)
-
-none_found : {A : Type 0} (test : A → Bool) (xs : List A) → find test xs ≡ None → AllByRecursion (λ x. test x ≡ false) xs
-none_found test [] e = tt
-none_found test (x ∷ xs) e = let first = fails_first (test x) x (find test xs) e in (first.0, none_found test xs first.1)
+legal_now : (profile : Profile) (before cs : List DrillCommand) (c : DrillCommand) → IsLeft profile before (c ∷ cs) → (broken_rule_in profile before c ≡ None) × (filter_map (violation_at (broken_rule_in profile)) (with_prefixes_from (before ++ c ∷ []) cs) ≡ [])
+legal_now profile before cs c left = legal_parts (length before) (broken_rule_in profile before c) (filter_map (violation_at (broken_rule_in profile)) (with_prefixes_from (before ++ c ∷ []) cs)) left.legal
 
 -- a command that breaks no rule does not end a header without a unit, and what it drills has a size
 has_unit : (s : StateView) (count : ℕ) (o : Option DrillPath) (c : DrillCommand) → first_broken s count o c ≡ None → lacks_unit s c ≡ false
@@ -135,12 +119,17 @@ has_size : (s : StateView) (count : ℕ) (o : Option DrillPath) (c : DrillComman
 unfolding first_broken
 has_size s count o c e = (none_found (applies s count o c) rules e).1.1.1.1.1.1.0
 
-next : (before cs : List DrillCommand) (c : DrillCommand) → IsLeft before (c ∷ cs) → IsLeft (before ++ c ∷ []) cs
-next before cs c left =
-    let legal = legal_now before cs c left in
+-- the header ends only where a unit is named
+unit_at_end : (profile : Profile) (s : StateView) (count : ℕ) (o : Option DrillPath) (c : DrillCommand) → first_broken_in profile s count o c ≡ None → ends_header c ≡ true → is_some s.settings.unit ≡ true
+unit_at_end profile s count o command.HeaderEnd legal ends = some_unless s.settings.unit (has_unit s count o command.HeaderEnd (sym (same_rules profile s count o command.HeaderEnd refl) ∙ legal))
+unit_at_end profile s count o c legal ends = absurd cc
+
+next : (profile : Profile) (before cs : List DrillCommand) (c : DrillCommand) → IsLeft profile before (c ∷ cs) → IsLeft profile (before ++ c ∷ []) cs
+next profile before cs c left =
+    let legal = legal_now profile before cs c left in
     record {
       unit = λ body. ap is_some (header-more unit_set refl before c) ∙ stays_named (list_any ends_header before) (unit_set c) (last_set unit_set (header before))
-          (in_body (part_after before) (last_set unit_set (header before)) c left.unit (unit_at_end (state_after before) c (has_unit (state_after before) (length (holes_of before)) (path_at before c) c legal.0)) (sym (part_more before c) ∙ body));
+          (in_body (part_after before) (last_set unit_set (header before)) c left.unit (unit_at_end profile (state_after before) (length (holes_of before)) (path_at before c) c legal.0) (sym (part_more before c) ∙ body));
       legal = legal.1;
       stands = subst (λ (p : Part). AreInBody p cs) (sym (part_more before c)) left.stands.1;
     }
@@ -191,27 +180,27 @@ drilled before c start end named size runs =
     }
 
 -- a hit or a slot that is left is in the body, where a unit is named, and what it drills has a size
-drilled_now : (before cs : List DrillCommand) (c : DrillCommand) → IsLeft before (c ∷ cs) → drills c ≡ true → (is_some (last_set unit_set (header before)) ≡ true) × (applies (state_after before) (length (holes_of before)) (path_at before c) c BadSize ≡ false)
-drilled_now before cs c left d = (
+drilled_now : (profile : Profile) (before cs : List DrillCommand) (c : DrillCommand) → IsLeft profile before (c ∷ cs) → drills c ≡ true → defines_alike (state_after before) c ≡ false → (is_some (last_set unit_set (header before)) ≡ true) × (applies (state_after before) (length (holes_of before)) (path_at before c) c BadSize ≡ false)
+drilled_now profile before cs c left d fresh = (
   left.unit (left.stands.0 d),
-  has_size (state_after before) (length (holes_of before)) (path_at before c) c (legal_now before cs c left).0,
+  has_size (state_after before) (length (holes_of before)) (path_at before c) c (sym (same_rules profile (state_after before) (length (holes_of before)) (path_at before c) c fresh) ∙ (legal_now profile before cs c left).0),
 )
 
-listed_drilled : (before cs : List DrillCommand) → IsLeft before cs → AreHolesAfter before cs (listed_after before cs)
+listed_drilled : (profile : Profile) (before cs : List DrillCommand) → IsLeft profile before cs → AreHolesAfter before cs (listed_after before cs)
 unfolding AreHolesAfter listed_after path
-listed_drilled before [] left = tt
-listed_drilled before (command.Hit p ∷ cs) left =
-    let now = drilled_now before cs (command.Hit p) left refl in
-    (drilled before (command.Hit p) (p ∷ []) (p ∷ []) now.0 now.1 (λ unit. (refl, refl)), listed_drilled (before ++ command.Hit p ∷ []) cs (next before cs (command.Hit p) left))
-listed_drilled before (command.Slot p q ∷ cs) left =
-    let now = drilled_now before cs (command.Slot p q) left refl in
-    (drilled before (command.Slot p q) (p ∷ []) (p ∷ q ∷ []) now.0 now.1 (λ unit. (refl, refl)), listed_drilled (before ++ command.Slot p q ∷ []) cs (next before cs (command.Slot p q) left))
-listed_drilled before (c ∷ cs) left = listed_drilled (before ++ c ∷ []) cs (next before cs c left)
+listed_drilled profile before [] left = tt
+listed_drilled profile before (command.Hit p ∷ cs) left =
+    let now = drilled_now profile before cs (command.Hit p) left refl refl in
+    (drilled before (command.Hit p) (p ∷ []) (p ∷ []) now.0 now.1 (λ unit. (refl, refl)), listed_drilled profile (before ++ command.Hit p ∷ []) cs (next profile before cs (command.Hit p) left))
+listed_drilled profile before (command.Slot p q ∷ cs) left =
+    let now = drilled_now profile before cs (command.Slot p q) left refl refl in
+    (drilled before (command.Slot p q) (p ∷ []) (p ∷ q ∷ []) now.0 now.1 (λ unit. (refl, refl)), listed_drilled profile (before ++ command.Slot p q ∷ []) cs (next profile before cs (command.Slot p q) left))
+listed_drilled profile before (c ∷ cs) left = listed_drilled profile (before ++ c ∷ []) cs (next profile before cs c left)
 
 -- legal commands that drill in the body alone drill the holes that are listed of them
-pub legal_are_drilled : (commands : List DrillCommand) → IsLegal broken_rule commands → AreInBody part.Before commands → AreHoles commands (holes_of commands)
+pub legal_are_drilled : (profile : Profile) (commands : List DrillCommand) → IsLegal (broken_rule_in profile) commands → AreInBody part.Before commands → AreHoles commands (holes_of commands)
 unfolding AreHolesAfter listed_after
-legal_are_drilled commands legal stand = listed_drilled [] commands (record { unit = λ e. absurd cc; legal = legal; stands = stand })
+legal_are_drilled profile commands legal stand = listed_drilled profile [] commands (record { unit = λ e. absurd cc; legal = legal; stands = stand })
 
 -- sayable commands drill in the body alone
 sayable_in_body : (p : Part) (cs : List DrillCommand) → are_sayable p cs ≡ true → AreInBody p cs
@@ -222,4 +211,4 @@ sayable_in_body p (c ∷ cs) e =
 
 pub listed_holes_are_drilled : ListedHolesAreDrilled
 listed_holes_are_drilled text commands d =
-    legal_are_drilled commands d.legal (sayable_in_body part.Before commands (both_true (are_sayable part.Before commands) (is_after_end (part_from part.Before commands)) (text_sayable text commands d.spells)).0)
+    legal_are_drilled Strict commands d.legal (sayable_in_body part.Before commands (both_true (are_sayable part.Before commands) (is_after_end (part_from part.Before commands)) (text_sayable text commands d.spells)).0)

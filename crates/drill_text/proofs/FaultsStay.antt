@@ -13,7 +13,7 @@ take_both (suc n) [] ys = let all : suc n - 0 ≡ suc n = omega arith in rw all 
 take_both (suc n) (x ∷ xs) ys = let less : suc n - suc (length xs) ≡ n - length xs = omega arith in rw less (ap (λ (l : List ℕ). x ∷ l) (take_both n xs ys))
 
 -- the fault of the lines within the limit
-within_limit : (p : Kind) (text : List ℕ) (f : Fault) → HasFault p (take text_limit text) f → ShowsBy p text (Err f)
+pub within_limit : (p : Kind) (text : List ℕ) (f : Fault) → HasFault p (take text_limit text) f → ShowsBy p text (Err f)
 unfolding checks_len
 within_limit p text f h = record {
   lines = h.lines;

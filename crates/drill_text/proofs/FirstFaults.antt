@@ -1,5 +1,5 @@
 -- A text has a fault exactly where it is its first one.
-use Rattle.drill_text.proofs.Common.{◌≡◌, ◌⊎◌, inl, inr, ℕ, suc, ◌<◌, ◌≤◌, Bool, true, false, cond, eqb, ltb, List, [], ◌∷◌, ◌++◌, length, take, Option, None, Some, Result, Ok, Err, refl, sym, ap, ◌∙◌, append_assoc, list_any, option_to_list, append-nil, le-ltb, lt-ltb, ltb-true, ltb-false, eqb-true, eqb-false, Fault, Reason, TooLong, Truncated, ◌>>=◌, fault, with_place, bind_cong, bind_ok, bind_err, Strict, DrillCommand, without_end_blanks, meaning, bytes_of, Splits, settings_after, broken_rule, Kind, Reads, ReadsBy, add_unless, commands_with, commands_by, commands_at_end, is_finish, place_after, plain, read_by, shown_by, spelled_in, step_in, spelled_after, AreWithinLimit, text_limit, line_limit, IsLegal}
+use Rattle.drill_text.proofs.Common.{◌≡◌, ◌⊎◌, inl, inr, ℕ, suc, ◌<◌, ◌≤◌, Bool, true, false, cond, eqb, ltb, List, [], ◌∷◌, ◌++◌, length, take, Option, None, Some, Result, Ok, Err, refl, sym, ap, ◌∙◌, append_assoc, list_any, option_to_list, append-nil, le-ltb, lt-ltb, ltb-true, ltb-false, eqb-true, eqb-false, Fault, Reason, TooLong, Truncated, ◌>>=◌, fault, with_place, bind_cong, bind_ok, bind_err, Strict, DrillCommand, without_end_blanks, meaning, bytes_of, Splits, settings_after, broken_rule, Kind, Reads, ReadsBy, add_unless, commands_by, commands_at_end, is_finish, place_after, plain, read_by, shown_by, spelled_in, step_in, spelled_after, AreWithinLimit, text_limit, line_limit, IsLegal, checked_by, broken_rule_in}
 use Rattle.drill_text.specs.Faults.{SpellLegally, IsRefused, HasRefusedLine, HasFaultWithin, HasFaultBeyond, IsFirstFault, HasAnswer}
 use Rattle.drill_text.proofs.ProfileLemmas.{commands_by-append, commands_by-push, show_by_err, show_by_long, show_by_ok, shown_by_err, shown_by_ok, too_long}
 use Rattle.drill_text.proofs.SpellsTextLemmas.{all_kept, all_spelled, last_short, reads_drill_text, strict_rest}
@@ -10,7 +10,7 @@ at_err place byte (Err r) f e = let same : fault place byte r ≡ f = cc in (ap 
 
 -- ---- one line
 
-judged_err : (before : List DrillCommand) (command : Option DrillCommand) (r : Reason) → commands_with before command ≡ Err r → (c : DrillCommand) × (command ≡ Some c) × (broken_rule before c ≡ Some r)
+judged_err : (before : List DrillCommand) (command : Option DrillCommand) (r : Reason) → checked_by (broken_rule_in Strict) before command ≡ Err r → (c : DrillCommand) × (command ≡ Some c) × (broken_rule before c ≡ Some r)
 judged_err before None r e = absurd cc
 judged_err before (Some c) r e = by (broken_rule before c) refl e
   where
@@ -22,22 +22,22 @@ step_err : (earlier : List (List ℕ)) (before : List DrillCommand) (line : List
 unfolding step_in
 step_err earlier before line r e = by (ltb line_limit (length line)) refl e
   where
-    by : (t : Bool) → ltb line_limit (length line) ≡ t → cond t (Err TooLong) (meaning (settings_after before) (without_end_blanks line) >>= commands_with before) ≡ Err r → IsRefused before line r
+    by : (t : Bool) → ltb line_limit (length line) ≡ t → cond t (Err TooLong) (meaning (settings_after before) (without_end_blanks line) >>= checked_by (broken_rule_in Strict) before) ≡ Err r → IsRefused before line r
     by true long k = let same : TooLong ≡ r = cc in inl (ltb-true _ _ long, sym same)
     by false short k =
-        elim (bind_err (meaning (settings_after before) (without_end_blanks line)) (commands_with before) r k) [
+        elim (bind_err (meaning (settings_after before) (without_end_blanks line)) (checked_by (broken_rule_in Strict) before) r k) [
           | inl h ↦ inr (ltb-false _ _ short, inl h)
           | inr h ↦ (let j = judged_err before h.0 r h.2 in inr (ltb-false _ _ short, inr (j.0, h.1 ∙ ap (λ (o : Option DrillCommand). Ok o) j.1, j.2)))
         ]
 
 refused_err : (earlier : List (List ℕ)) (before : List DrillCommand) (line : List ℕ) (r : Reason) → IsRefused before line r → step_in (plain Strict) earlier before line ≡ Err r
 unfolding step_in
-refused_err earlier before line r (inl h) = ap (λ t. cond t (Err TooLong) (meaning (settings_after before) (without_end_blanks line) >>= commands_with before)) (lt-ltb _ _ h.0) ∙ ap (λ (x : Reason). Err x) (sym h.1)
+refused_err earlier before line r (inl h) = ap (λ t. cond t (Err TooLong) (meaning (settings_after before) (without_end_blanks line) >>= checked_by (broken_rule_in Strict) before)) (lt-ltb _ _ h.0) ∙ ap (λ (x : Reason). Err x) (sym h.1)
 refused_err earlier before line r (inr h) =
-    ap (λ t. cond t (Err TooLong) (meaning (settings_after before) (without_end_blanks line) >>= commands_with before)) (le-ltb _ _ h.0)
+    ap (λ t. cond t (Err TooLong) (meaning (settings_after before) (without_end_blanks line) >>= checked_by (broken_rule_in Strict) before)) (le-ltb _ _ h.0)
     ∙ elim h.1 [
-      | inl k ↦ ap (λ x. x >>= commands_with before) k
-      | inr k ↦ (ap (λ x. x >>= commands_with before) k.1 ∙ ap (λ o. add_unless o before k.0) k.2)
+      | inl k ↦ ap (λ x. x >>= checked_by (broken_rule_in Strict) before) k
+      | inr k ↦ (ap (λ x. x >>= checked_by (broken_rule_in Strict) before) k.1 ∙ ap (λ o. add_unless o before k.0) k.2)
     ]
 
 -- ---- lines
@@ -118,9 +118,6 @@ lines_refused before line after cs r e h =
     commands_by-append (plain Strict) [] before (line ∷ after) []
     ∙ (ap (λ x. x >>= strict_from before (line ∷ after)) e ∙ ap (λ x. with_place (suc (length before)) (length (bytes_of before)) x >>= strict_from (before ++ line ∷ []) after) h)
 
-none_legal : IsLegal broken_rule []
-none_legal = refl
-
 pub has_refused : (lines : List (List ℕ)) (f : Fault) → strict_from [] lines [] ≡ Err f → HasRefusedLine lines f
 has_refused lines f e =
     let r = faulty [] lines [] f e in
@@ -130,7 +127,7 @@ has_refused lines f e =
       after = r.after;
       whole = r.whole;
       commands = r.commands;
-      spells = record { short = r.short; spelling = r.spelling; legal = r.legal none_legal };
+      spells = record { short = r.short; spelling = r.spelling; legal = r.legal refl };
       refused = r.refused;
       place = r.place_is;
       byte = r.byte_is;
@@ -144,7 +141,7 @@ refused_has lines f h =
     ∙ (λ i. Err (fault (sym h.place i) (sym h.byte i) f.reason)))
 
 pub legal_lines : (lines : List (List ℕ)) (cs : List DrillCommand) → strict_from [] lines [] ≡ Ok cs → SpellLegally lines cs
-legal_lines lines cs e = let k = all_kept [] lines [] cs e in record { short = k.0; spelling = k.1; legal = k.2 none_legal }
+legal_lines lines cs e = let k = all_kept [] lines [] cs e in record { short = k.0; spelling = k.1; legal = k.2 refl }
 
 pub lines_legal : (lines : List (List ℕ)) (cs : List DrillCommand) → SpellLegally lines cs → strict_from [] lines [] ≡ Ok cs
 lines_legal lines cs s = all_spelled [] lines [] cs s.short s.spelling s.legal

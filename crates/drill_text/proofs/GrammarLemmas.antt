@@ -1,7 +1,8 @@
 -- A text that spells commands, and one that is written for them.
-use Rattle.drill_text.proofs.Common.{◌≡◌, ℕ, zero, suc, Bool, true, false, cond, ◌||◌, List, [], ◌∷◌, ◌++◌, map, Ok, refl, sym, ap, subst, ◌∙◌, arith, append_assoc, list_any, flat_map, AllByRecursion, Contains, onto_first, option_to_list, ne_eqb, ◌>>=◌, bind_ok, Strict, DrillCommand, without_end_blanks, meaning, written_is_answered, bytes_of, HasNoBreak, Splits, settings_after, is_finish, spelled_after, AreWithinLimit, SpellsText, lines_of, AreEntries, IsText, IsWithinLimits, SpelledIsWritten}
+use Rattle.drill_text.proofs.Common.{◌≡◌, ℕ, zero, suc, true, cond, ◌||◌, List, [], ◌∷◌, ◌++◌, map, Ok, refl, sym, ap, subst, ◌∙◌, arith, append_assoc, list_any, flat_map, AllByRecursion, Contains, onto_first, option_to_list, ne_eqb, ◌>>=◌, bind_ok, Strict, DrillCommand, without_end_blanks, meaning, written_is_answered, bytes_of, HasNoBreak, Splits, settings_after, is_finish, spelled_after, AreWithinLimit, SpellsText, lines_of, AreEntries, IsText, IsWithinLimits, SpelledIsWritten}
 use Rattle.grid_units.proofs.ListLemmas.{list_any_element}
 use Rattle.drill_lines.specs.declared.command.DrillCommand.TheVariants as command
+use Rattle.drill_lines.proofs.Runs.{or_right}
 use Rattle.drill_lines.proofs.Written.{answers_are_written}
 use Rattle.drill_text.proofs.FirstFaults.{cut}
 
@@ -64,14 +65,10 @@ is_end c e = absurd cc
 pub has_end : (commands : List DrillCommand) → list_any is_finish commands ≡ true → Contains commands command.Finish
 has_end commands e = let there = list_any_element is_finish commands e in subst (Contains commands) (is_end there.0 there.2) there.1
 
-or_true : (a b : Bool) → b ≡ true → (a || b) ≡ true
-or_true true b e = refl
-or_true false b e = e
-
 pub end_found : (commands : List DrillCommand) → Contains commands command.Finish → list_any is_finish commands ≡ true
 end_found [] (k, less, e) = absurd (omega (arith, less))
 end_found (c ∷ cs) (zero, less, e) = ap (λ d. is_finish d || list_any is_finish cs) e
-end_found (c ∷ cs) (suc k, less, e) = or_true (is_finish c) (list_any is_finish cs) (end_found cs (k, omega (arith, less), e))
+end_found (c ∷ cs) (suc k, less, e) = or_right (is_finish c) (list_any is_finish cs) (end_found cs (k, omega (arith, less), e))
 
 -- ---- texts
 

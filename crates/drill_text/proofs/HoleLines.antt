@@ -1,7 +1,8 @@
 -- What is drilled, and the first rule that it breaks.
-use Rattle.drill_text.proofs.Common.{◌≡◌, ℕ, ℤ, Bool, true, false, cond, ◌||◌, ◌/◌, unsigned_abs, nat_le, [], ◌∷◌, Option, None, Some, Result, Ok, Err, refl, find, Reason, NoUnit, UnitConflict, FormatConflict, Redefined, UnknownTool, NoTool, BadSize, TooFar, TooManyHoles, ◌>>=◌, is_too_far, within_limit, GridHole, Coordinates, DrillCommand, StateView, DrillPath, hole_of, first_broken, applies, has_no_tool, has_bad_size, redefines_tool, max_holes, path_between, no_point, hole_in, width_with}
+use Rattle.drill_text.proofs.Common.{◌≡◌, ℕ, ℤ, Bool, true, false, cond, ◌||◌, ◌/◌, unsigned_abs, nat_le, [], ◌∷◌, Option, None, Some, Result, Ok, Err, refl, sym, ap, ◌∙◌, find, Profile, Strict, Wide, Reason, NoTool, BadSize, TooFar, TooManyHoles, ◌>>=◌, is_too_far, within_limit, GridHole, Coordinates, DrillCommand, StateView, DrillPath, hole_of, defines_alike, first_broken, first_broken_in, applies, has_no_tool, has_bad_size, redefines_tool, max_holes, path_between, no_point, hole_in, width_with, List, AllByRecursion}
 use Rattle.grid_units.specs.Points.{GridPoint}
 use Rattle.drill_lines.specs.declared.command.DrillCommand.TheVariants as command
+use Rattle.drill_text.specs.Rules.{rules}
 
 -- a value, unless a rule is broken
 pub ok_unless : {A : Type 0} → Option Reason → A → Result A Reason
@@ -54,16 +55,30 @@ hit_rule s count p =
     let d = path_between s p no_point in
     rule_order d.diameter d.from d.to whole (has_no_tool s) (has_bad_size d) (is_too_far d.diameter) (is_too_far d.from.x) (is_too_far d.from.y) (is_too_far d.to.x) (is_too_far d.to.y) (nat_le max_holes count)
 
--- a command that breaks no rule defines no tool again
-fourth : (a b c d : Bool) (q r s t : Reason) (rest : Option Reason) → cond a (Some q) (cond b (Some r) (cond c (Some s) (cond d (Some t) rest))) ≡ None → d ≡ false
-fourth true b c d q r s t rest e = absurd cc
-fourth false true c d q r s t rest e = absurd cc
-fourth false false true d q r s t rest e = absurd cc
-fourth false false false true q r s t rest e = absurd cc
-fourth false false false false q r s t rest e = refl
+-- a command that defines no tool again breaks the same rules in each profile
+pub same_rules : (profile : Profile) (s : StateView) (count : ℕ) (drill_path : Option DrillPath) (c : DrillCommand) → defines_alike s c ≡ false → first_broken_in profile s count drill_path c ≡ first_broken s count drill_path c
+same_rules Strict s count drill_path c none = refl
+same_rules Wide s count drill_path c none = ap (λ t. cond t None (first_broken s count drill_path c)) none
 
-pub not_redefined : (s : StateView) (count : ℕ) (drill_path : Option DrillPath) (c : DrillCommand) → first_broken s count drill_path c ≡ None → redefines_tool s c ≡ false
+-- where no element is found, each fails the test
+fails_first : {A : Type 0} (t : Bool) (x : A) (rest : Option A) → cond t (Some x) rest ≡ None → (t ≡ false) × (rest ≡ None)
+fails_first true x rest e = absurd cc
+fails_first false x rest e = (refl, e)
+
+pub none_found : {A : Type 0} (test : A → Bool) (xs : List A) → find test xs ≡ None → AllByRecursion (λ x. test x ≡ false) xs
+none_found test [] e = tt
+none_found test (x ∷ xs) e = let first = fails_first (test x) x (find test xs) e in (first.0, none_found test xs first.1)
+
+-- a command that breaks no rule defines no tool again
+not_redefined : (s : StateView) (count : ℕ) (drill_path : Option DrillPath) (c : DrillCommand) → first_broken s count drill_path c ≡ None → redefines_tool s c ≡ false
 unfolding first_broken
-not_redefined s count drill_path c e =
-    let a = applies s count drill_path c in
-    fourth (a NoUnit) (a UnitConflict) (a FormatConflict) (redefines_tool s c) NoUnit UnitConflict FormatConflict Redefined (find a (UnknownTool ∷ NoTool ∷ BadSize ∷ TooFar ∷ TooManyHoles ∷ [])) e
+not_redefined s count drill_path c e = (none_found (applies s count drill_path c) rules e).1.1.1.0
+
+-- one that breaks no rule of its profile defines none again but with the diameter that it has
+pub not_changed : (profile : Profile) (s : StateView) (count : ℕ) (drill_path : Option DrillPath) (c : DrillCommand) → first_broken_in profile s count drill_path c ≡ None → redefines_tool s c ≡ true → defines_alike s c ≡ true
+not_changed Strict s count drill_path c e some = let no : true ≡ false = sym some ∙ not_redefined s count drill_path c e in absurd cc
+not_changed Wide s count drill_path c e some = by (defines_alike s c) refl e
+  where
+    by : (t : Bool) → defines_alike s c ≡ t → cond t None (first_broken s count drill_path c) ≡ None → defines_alike s c ≡ true
+    by true is k = is
+    by false is k = let no : true ≡ false = sym some ∙ not_redefined s count drill_path c k in absurd cc

@@ -1,19 +1,19 @@
 -- A file of each kind is read as one of the same commands whose role is believed, but for the rule that the kind has beside the others.
-use Rattle.drill_text.proofs.Common.{◌≡◌, ℕ, suc, Bool, true, false, cond, ltb, ◌||◌, List, [], ◌∷◌, ◌++◌, length, map, Option, None, Some, Ok, Err, refl, sym, ap, subst, ◌∙◌, append_assoc, cons_option, filter_map, list_any, option_map, option_or, option_to_list, append-nil, line_limit, IsLegal, violation_at, with_prefixes_from, ◌>>=◌, with_place, Reason, PlatingConflict, TooLong, violations-more, bind_ok, without_end_blanks, meaning_in, DrillCommand, bytes_of, settings_after, calls_plated, contradiction_rule, own_rule, rule_in, PlatingKind, Kind, ReadsBy, ReadsIn, add_unless, commands_with, checked_by, commands_by, plain, spelled_in, step_in, with_rest, broken_rule}
+use Rattle.drill_text.proofs.Common.{◌≡◌, ℕ, suc, Bool, true, false, cond, ltb, ◌||◌, List, [], ◌∷◌, ◌++◌, length, map, Option, None, Some, Ok, Err, refl, sym, ap, subst, ◌∙◌, append_assoc, cons_option, filter_map, list_any, option_map, option_or, option_to_list, append-nil, line_limit, IsLegal, violation_at, with_prefixes_from, ◌>>=◌, with_place, Profile, Reason, PlatingConflict, TooLong, violations-more, bind_ok, without_end_blanks, meaning_in, DrillCommand, bytes_of, settings_after, calls_plated, contradiction_rule, own_rule, rule_in, PlatingKind, Kind, ReadsBy, ReadsIn, add_unless, checked_by, commands_by, plain, spelled_in, step_in, with_rest, broken_rule_in}
 use Rattle.drill_text.specs.MixedLaws.{KindsReadTheSame, UncontradictedIsLegal}
 use Rattle.drill_text.proofs.PlatingLemmas.{rules_are}
 use Rattle.drill_text.proofs.ProfileLemmas.{at_ok, ending, guarded, read_alike}
-use Rattle.drill_text.proofs.SpellsTextLemmas.{judged_ok, last_keeps, legal_start}
+use Rattle.drill_text.proofs.SpellsTextLemmas.{judged_ok, last_keeps, legal_parts, legal_start}
 
 -- ---- one command
 
 -- what a command leaves, where it breaks no rule of its kind of file
-judged_same : (plating : PlatingKind) (before : List DrillCommand) (command : Option DrillCommand) (new : List DrillCommand) → checked_by (rule_in plating) before command ≡ Ok new
-    → (commands_with before command ≡ Ok new) × (IsLegal (own_rule plating) before → IsLegal (own_rule plating) new)
-judged_same plating before None new e = let same : before ≡ new = cc in (e, λ legal. subst (IsLegal (own_rule plating)) same legal)
-judged_same plating before (Some c) new e = by (broken_rule before c) (own_rule plating before c) refl refl (sym (ap (λ o. add_unless o before c) (rules_are plating before c)) ∙ e)
+judged_same : (profile : Profile) (plating : PlatingKind) (before : List DrillCommand) (command : Option DrillCommand) (new : List DrillCommand) → checked_by (rule_in profile plating) before command ≡ Ok new
+    → (checked_by (broken_rule_in profile) before command ≡ Ok new) × (IsLegal (own_rule plating) before → IsLegal (own_rule plating) new)
+judged_same profile plating before None new e = let same : before ≡ new = cc in (e, λ legal. subst (IsLegal (own_rule plating)) same legal)
+judged_same profile plating before (Some c) new e = by (broken_rule_in profile before c) (own_rule plating before c) refl refl (sym (ap (λ o. add_unless o before c) (rules_are profile plating before c)) ∙ e)
   where
-    by : (o p : Option Reason) → broken_rule before c ≡ o → own_rule plating before c ≡ p → add_unless (option_or o p) before c ≡ Ok new → (add_unless (broken_rule before c) before c ≡ Ok new) × (IsLegal (own_rule plating) before → IsLegal (own_rule plating) new)
+    by : (o p : Option Reason) → broken_rule_in profile before c ≡ o → own_rule plating before c ≡ p → add_unless (option_or o p) before c ≡ Ok new → (add_unless (broken_rule_in profile before c) before c ≡ Ok new) × (IsLegal (own_rule plating) before → IsLegal (own_rule plating) new)
     by None None is own k =
         let same : before ++ c ∷ [] ≡ new = cc in
         (ap (λ o. add_unless o before c) is ∙ k, λ legal. subst (IsLegal (own_rule plating)) same (violations-more (own_rule plating) before c legal own))
@@ -21,15 +21,15 @@ judged_same plating before (Some c) new e = by (broken_rule before c) (own_rule 
     by (Some r) p is own k = absurd cc
 
 -- a command of a file whose role is believed leaves the same in another kind, if it breaks no rule of that
-judged_back : (plating : PlatingKind) (before : List DrillCommand) (command : Option DrillCommand) (new : List DrillCommand) → commands_with before command ≡ Ok new → IsLegal (own_rule plating) new → checked_by (rule_in plating) before command ≡ Ok new
-judged_back plating before None new e legal = e
-judged_back plating before (Some c) new e legal = by (broken_rule before c) refl e
+judged_back : (profile : Profile) (plating : PlatingKind) (before : List DrillCommand) (command : Option DrillCommand) (new : List DrillCommand) → checked_by (broken_rule_in profile) before command ≡ Ok new → IsLegal (own_rule plating) new → checked_by (rule_in profile plating) before command ≡ Ok new
+judged_back profile plating before None new e legal = e
+judged_back profile plating before (Some c) new e legal = by (broken_rule_in profile before c) refl e
   where
-    by : (o : Option Reason) → broken_rule before c ≡ o → add_unless o before c ≡ Ok new → add_unless (rule_in plating before c) before c ≡ Ok new
+    by : (o : Option Reason) → broken_rule_in profile before c ≡ o → add_unless o before c ≡ Ok new → add_unless (rule_in profile plating before c) before c ≡ Ok new
     by None is k =
         let same : before ++ c ∷ [] ≡ new = cc in
         let own : own_rule plating before c ≡ None = last_keeps (own_rule plating) before c (subst (IsLegal (own_rule plating)) (sym same) legal) in
-        ap (λ o. add_unless o before c) (rules_are plating before c ∙ (λ i. option_or (is i) (own i))) ∙ k
+        ap (λ o. add_unless o before c) (rules_are profile plating before c ∙ (λ i. option_or (is i) (own i))) ∙ k
     by (Some r) is k = absurd cc
 
 module _ (kind : Kind) where
@@ -42,27 +42,27 @@ module _ (kind : Kind) where
   unfolding step_in
   step_same earlier line before new e =
       let spelt = meaning_in kind.profile (map without_end_blanks earlier) (settings_after before) (without_end_blanks line) in
-      let g = guarded (ltb line_limit (length line)) TooLong (spelt >>= checked_by (rule_in kind.plating) before) new e in
-      let b = bind_ok spelt (checked_by (rule_in kind.plating) before) new g.1 in
-      let j = judged_same kind.plating before b.0 new b.2 in
-      (ap (λ t. cond t (Err TooLong) (spelt >>= commands_with before)) g.0 ∙ (ap (λ m. m >>= commands_with before) b.1 ∙ j.0), j.1)
+      let g = guarded (ltb line_limit (length line)) TooLong (spelt >>= checked_by (rule_in kind.profile kind.plating) before) new e in
+      let b = bind_ok spelt (checked_by (rule_in kind.profile kind.plating) before) new g.1 in
+      let j = judged_same kind.profile kind.plating before b.0 new b.2 in
+      (ap (λ t. cond t (Err TooLong) (spelt >>= checked_by (broken_rule_in kind.profile) before)) g.0 ∙ (ap (λ m. m >>= checked_by (broken_rule_in kind.profile) before) b.1 ∙ j.0), j.1)
 
   step_back : (earlier : List (List ℕ)) (line : List ℕ) (before new : List DrillCommand) → step_in (plain kind.profile) earlier before line ≡ Ok new → IsLegal own new → step_in kind earlier before line ≡ Ok new
   unfolding step_in
   step_back earlier line before new e legal =
       let spelt = meaning_in kind.profile (map without_end_blanks earlier) (settings_after before) (without_end_blanks line) in
-      let g = guarded (ltb line_limit (length line)) TooLong (spelt >>= commands_with before) new e in
-      let b = bind_ok spelt (commands_with before) new g.1 in
-      ap (λ t. cond t (Err TooLong) (spelt >>= checked_by (rule_in kind.plating) before)) g.0 ∙ (ap (λ m. m >>= checked_by (rule_in kind.plating) before) b.1 ∙ judged_back kind.plating before b.0 new b.2 legal)
+      let g = guarded (ltb line_limit (length line)) TooLong (spelt >>= checked_by (broken_rule_in kind.profile) before) new e in
+      let b = bind_ok spelt (checked_by (broken_rule_in kind.profile) before) new g.1 in
+      ap (λ t. cond t (Err TooLong) (spelt >>= checked_by (rule_in kind.profile kind.plating) before)) g.0 ∙ (ap (λ m. m >>= checked_by (rule_in kind.profile kind.plating) before) b.1 ∙ judged_back kind.profile kind.plating before b.0 new b.2 legal)
 
   -- what a line leaves begins with what stood before it
   step_more : (earlier : List (List ℕ)) (line : List ℕ) (before new : List DrillCommand) → step_in (plain kind.profile) earlier before line ≡ Ok new → (more : List DrillCommand) × (before ++ more ≡ new)
   unfolding step_in
   step_more earlier line before new e =
       let spelt = meaning_in kind.profile (map without_end_blanks earlier) (settings_after before) (without_end_blanks line) in
-      let g = guarded (ltb line_limit (length line)) TooLong (spelt >>= commands_with before) new e in
-      let b = bind_ok spelt (commands_with before) new g.1 in
-      (option_to_list b.0, (judged_ok before b.0 new b.2).0)
+      let g = guarded (ltb line_limit (length line)) TooLong (spelt >>= checked_by (broken_rule_in kind.profile) before) new e in
+      let b = bind_ok spelt (checked_by (broken_rule_in kind.profile) before) new g.1 in
+      (option_to_list b.0, (judged_ok kind.profile before b.0 new b.2).0)
 
   line_same : (earlier : List (List ℕ)) (line : List ℕ) (before new : List DrillCommand) → spelled_in kind earlier line before ≡ Ok new → (spelled_in (plain kind.profile) earlier line before ≡ Ok new) × (IsLegal own before → IsLegal own new)
   line_same earlier line before new e =
@@ -136,11 +136,6 @@ kinds_read_the_same kind text cs = (kind_is_read kind text cs, read_is_kind kind
 
 -- ---- unplated files
 
--- where the last command breaks a rule, the list is not legal
-broken_parts : (n : ℕ) (o : Option Reason) (rest : List (ℕ × Reason)) → cons_option (option_map (λ (r : Reason). (n, r)) o) rest ≡ [] → (o ≡ None) × (rest ≡ [])
-broken_parts n None rest e = (refl, e)
-broken_parts n (Some r) rest e = absurd cc
-
 -- the rule is kept by commands, whatever stands before them
 AreUncalled : List DrillCommand → List DrillCommand → Type 0
 AreUncalled before cs = filter_map (violation_at contradiction_rule) (with_prefixes_from before cs) ≡ []
@@ -149,7 +144,7 @@ uncalled : (before cs : List DrillCommand) → AreUncalled before cs → list_an
 unfolding AreUncalled
 uncalled before [] e = refl
 uncalled before (c ∷ cs) e =
-    let parts = broken_parts (length before) (contradiction_rule before c) (filter_map (violation_at contradiction_rule) (with_prefixes_from (before ++ c ∷ []) cs)) e in
+    let parts = legal_parts (length before) (contradiction_rule before c) (filter_map (violation_at contradiction_rule) (with_prefixes_from (before ++ c ∷ []) cs)) e in
     by (calls_plated c) parts.0 (uncalled (before ++ c ∷ []) cs parts.1)
   where
     by : (t : Bool) → cond t (Some PlatingConflict) None ≡ None → list_any calls_plated cs ≡ false → (t || list_any calls_plated cs) ≡ false

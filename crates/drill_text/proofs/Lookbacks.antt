@@ -1,6 +1,5 @@
 -- What one more command changes of the words that look back.
-use Rattle.drill_text.proofs.Common.{◌≡◌, ℕ, ℤ, List, [], ◌∷◌, ◌++◌, length, Option, None, Some, unwrap_or, Bool, true, false, cond, ◌||◌, refl, sym, ap, subst, ◌∙◌, flat_map-append, filter_map-append, option_or, option_map, option_to_list, list_any, cons_option, last_set, option_or_none, option_or_assoc, unwrap_or_or, last_set-append, last_set-more, list_any-more, flat_positions-more, Coordinates, DrillCommand, Reason, PlatingKind, DrillState, own_rule, rule_in, tool_made, StateView, state_after, settings_after, header, ends_header, part_set, unit_set, zeros_set, format_set, diameter_set, tool_set, tool_defined, tools_of, points_in, points_of, x_set, y_set, unit_after, point_at, coordinate_in, diameter_after, path_at, hole_of, holes_at, holes_of, broken_rule, drills, first_broken, redefines_tool, state_of, AreWordsAfter, IsStateAfter, Applies, mark_of, own_broken, picked_plating, after, settings_with, given_last, at_last_point, no_point, drill_path, resolved_point}
-use Rattle.std.proofs.Common.{append-nil}
+use Rattle.drill_text.proofs.Common.{◌≡◌, ℤ, List, [], ◌∷◌, ◌++◌, length, Option, None, Some, unwrap_or, Bool, true, false, cond, ◌||◌, refl, sym, ap, subst, ◌∙◌, flat_map-append, option_or, option_map, option_to_list, list_any, last_set, option_or_none, option_or_assoc, unwrap_or_or, last_set-append, last_set-more, list_any-more, flat_positions-more, Coordinates, DrillCommand, Kind, DrillState, rule_in, tool_made, StateView, state_after, settings_after, header, ends_header, part_set, unit_set, zeros_set, format_set, diameter_set, tool_set, tools_at, tools_of, points_in, points_of, x_set, y_set, unit_after, point_at, coordinate_in, diameter_after, path_at, hole_of, holes_at, holes_of, broken_rule_in, defines_alike, drills, first_broken_in, redefines_tool, state_of, AreWordsAfter, IsStateAfter, Applies, broken_in, mark_of, own_in, after, settings_with, given_last, at_last_point, no_point, drill_path, resolved_point, append-nil}
 use Rattle.grid_units.specs.declared.lengths.Unit.{Unit as Units}
 use Rattle.drill_lines.specs.declared.command.DrillCommand.TheVariants as command
 use Rattle.drill_lines.specs.declared.command.Part.TheVariants as part
@@ -109,42 +108,27 @@ holes_of-more cs c = flat_positions-more holes_at cs c
 
 -- ---- tools
 
-pub tools_of-more : (cs : List DrillCommand) (c : DrillCommand) → tools_of (cs ++ c ∷ []) ≡ tools_of cs ++ option_to_list (tool_defined c)
-tools_of-more cs c = filter_map-append tool_defined cs (c ∷ []) ∙ ap (λ (x : List (ℕ × ℤ)). tools_of cs ++ x) (one_option (tool_defined c))
-  where
-    one_option : (o : Option (ℕ × ℤ)) → cons_option o [] ≡ option_to_list o
-    one_option None = refl
-    one_option (Some x) = refl
+pub tools_of-more : (cs : List DrillCommand) (c : DrillCommand) → tools_of (cs ++ c ∷ []) ≡ tools_of cs ++ tools_at (state_after cs).diameter c
+tools_of-more cs c = flat_positions-more (λ (before : List DrillCommand) (d : DrillCommand). tools_at (state_after before).diameter d) cs c
 
 -- ---- the state
 
--- the rule that a command breaks, by the fields of the state
-pub same_rule : (state : DrillState) (kind : PlatingKind) (before : List DrillCommand) (c : DrillCommand) → IsStateAfter state kind before → first_broken (state_of state) (length state.holes.items) (drill_path (state_of state) c) c ≡ broken_rule before c
-same_rule state kind before c is_state = (λ i. first_broken (is_state.state_after i) (length (is_state.holes i)) (drill_path (is_state.state_after i) c) c) ∙ ap (λ d. first_broken (state_after before) (length (holes_of before)) d c) (drilled_back before c)
+-- the first rule that a command breaks, by the fields of the state: those of every file are asked first
+pub rule_is : (state : DrillState) (kind : Kind) (before : List DrillCommand) (c : DrillCommand) → IsStateAfter state kind before → rule_in kind.profile kind.plating before c ≡ option_or (broken_in state c) (own_in state c)
+rule_is state kind before c h =
+    let table : broken_in state c ≡ broken_rule_in kind.profile before c = (λ i. first_broken_in (h.words.profile_is i) (h.state_after i) (length (h.holes i)) (drill_path (h.state_after i) c) c)
+    ∙ ap (λ d. first_broken_in kind.profile (state_after before) (length (holes_of before)) d c) (drilled_back before c) in
+    rules_are kind.profile kind.plating before c ∙ (λ i. option_or (sym table i) (sym (same_own state kind before c h) i))
 
--- a command breaks no rule, neither one of every file nor the own one of its kind
-pub breaks_none : (state : DrillState) (kind : PlatingKind) (before : List DrillCommand) (c : DrillCommand) → IsStateAfter state kind before → first_broken (state_of state) (length state.holes.items) (drill_path (state_of state) c) c ≡ None
-    → own_broken state.words.kind state.header_ended (picked_plating state) c ≡ None → rule_in kind before c ≡ None
-breaks_none state kind before c is_state legal own = rules_are kind before c ∙ (λ i. option_or ((sym (same_rule state kind before c is_state) ∙ legal) i) ((sym (same_own state kind before c is_state) ∙ own) i))
-
--- it breaks the own one alone
-pub breaks_own : (state : DrillState) (kind : PlatingKind) (before : List DrillCommand) (c : DrillCommand) (broken : Reason) → IsStateAfter state kind before → first_broken (state_of state) (length state.holes.items) (drill_path (state_of state) c) c ≡ None
-    → own_broken state.words.kind state.header_ended (picked_plating state) c ≡ Some broken → rule_in kind before c ≡ Some broken
-breaks_own state kind before c broken is_state legal own = rules_are kind before c ∙ (λ i. option_or ((sym (same_rule state kind before c is_state) ∙ legal) i) ((sym (same_own state kind before c is_state) ∙ own) i))
-
--- it breaks a rule of every file
-pub breaks_first : (state : DrillState) (kind : PlatingKind) (before : List DrillCommand) (c : DrillCommand) (broken : Reason) → IsStateAfter state kind before → first_broken (state_of state) (length state.holes.items) (drill_path (state_of state) c) c ≡ Some broken
-    → rule_in kind before c ≡ Some broken
-breaks_first state kind before c broken is_state breaks = rules_are kind before c ∙ ap (λ o. option_or o (own_rule kind before c)) (sym (same_rule state kind before c is_state) ∙ breaks)
-
-pub knows_more : (old new : DrillState) (kind : PlatingKind) (before : List DrillCommand) (c : DrillCommand) → IsStateAfter old kind before → redefines_tool (state_of old) c ≡ false → Applies old c new → IsStateAfter new kind (before ++ c ∷ [])
-knows_more old new kind before c is_state not_redefined takes = record {
+pub knows_more : (old new : DrillState) (kind : Kind) (before : List DrillCommand) (c : DrillCommand) → IsStateAfter old kind before → (redefines_tool (state_of old) c ≡ true → defines_alike (state_of old) c ≡ true) → Applies old c new
+    → IsStateAfter new kind (before ++ c ∷ [])
+knows_more old new kind before c is_state alike takes = record {
   state_after = takes.state_after ∙ ap (after c) is_state.state_after ∙ sym (state_after-more before c);
   holes = takes.holes ∙ (λ i. is_state.holes i ++ option_to_list (option_map hole_of (drill_path (is_state.state_after i) c))) ∙ ap (λ d. holes_of before ++ option_to_list (option_map hole_of d)) (drilled_back before c) ∙ sym (holes_of-more before c);
-  tools = takes.tools not_redefined ∙ ap (λ (x : List (ℕ × ℤ)). x ++ option_to_list (tool_defined c)) is_state.tools ∙ sym (tools_of-more before c);
+  tools = takes.tools alike ∙ (λ i. is_state.tools i ++ tools_at (is_state.state_after i).diameter c) ∙ sym (tools_of-more before c);
   words = subst (λ (w : PlatingWords). AreWordsAfter w kind (before ++ c ∷ [])) (sym takes.words) (words_more old.words kind before c is_state.words);
   platings = λ number. takes.platings number ∙ ((λ i. option_or (tool_made number (is_state.words.said i) c) (is_state.platings number i)) ∙ sym (tool_more before c number));
-  plated = takes.plated ∙ ((λ i. is_state.plated i ++ cond (drills c) (mark_of (is_state.words.kind_is i) (picked_is old kind before is_state i)) []) ∙ sym (marks_more kind before c));
+  plated = takes.plated ∙ ((λ i. is_state.plated i ++ cond (drills c) (mark_of (is_state.words.kind_is i) (picked_is old kind before is_state i)) []) ∙ sym (marks_more kind.plating before c));
 }
 
 -- ---- the arms of a hit and a slot

@@ -85,9 +85,9 @@ too_long kind lines line before lt = rw (lt-ltb _ _ lt) refl
 
 -- a line that spells this is judged so
 pub spelled_in_is : (kind : Kind) (earlier : List (List ℕ)) (line : List ℕ) (before : List DrillCommand) (r : Result (Option DrillCommand) Reason) → length line ≤ line_limit
-    → meaning_in kind.profile (map without_end_blanks earlier) (settings_after before) (without_end_blanks line) ≡ r → spelled_in kind earlier line before ≡ with_place (suc (length earlier)) (length (bytes_of earlier)) (r >>= checked_by (rule_in kind.plating) before)
+    → meaning_in kind.profile (map without_end_blanks earlier) (settings_after before) (without_end_blanks line) ≡ r → spelled_in kind earlier line before ≡ with_place (suc (length earlier)) (length (bytes_of earlier)) (r >>= checked_by (rule_in kind.profile kind.plating) before)
 unfolding step_in
-spelled_in_is kind earlier line before r le e = rw (le-ltb _ _ le) (ap (λ m. with_place (suc (length earlier)) (length (bytes_of earlier)) (m >>= checked_by (rule_in kind.plating) before)) e)
+spelled_in_is kind earlier line before r le e = rw (le-ltb _ _ le) (ap (λ m. with_place (suc (length earlier)) (length (bytes_of earlier)) (m >>= checked_by (rule_in kind.profile kind.plating) before)) e)
 
 -- ---- texts
 

@@ -1,10 +1,8 @@
 -- The canonical text of a sayable list spells just the list.
-use Rattle.drill_text.proofs.Common.{◌≡◌, ◌≢◌, ℕ, ◌≤◌, true, false, not, ◌&&◌, eqb, List, [], ◌∷◌, ◌++◌, length, map, take, drop, get_or, Ok, Err, refl, sym, ap, subst, ◌∙◌, arith, append_assoc, lit≤, add-one, suc, ◌+◌, ◌<◌, cond, list_any, list_all, AllByRecursion, option_to_list, map-append, length-append, take-append-drop, flat_map-append, drop-cons, eq-eqb, false≢true, lt-ltb, le-ltb, TooLong, ◌>>=◌, fault, last_or-more, Part, DrillCommand, meaning, canonical, is_sayable, IsInRange, ended_line, bytes_of, HasNoBreak, settings_after, part_after, part_set, is_finish, spelled_after, AreWithinLimit, SpellsText, text_limit, both_true}
-use Rattle.std.proofs.Common.{append-nil}
+use Rattle.drill_text.proofs.Common.{false≢true, ◌≡◌, ℕ, ◌≤◌, true, false, not, ◌&&◌, eqb, List, [], ◌∷◌, ◌++◌, length, map, take, drop, get_or, Ok, Err, refl, sym, ap, subst, ◌∙◌, arith, append_assoc, lit≤, add-one, suc, ◌+◌, ◌<◌, cond, list_any, list_all, AllByRecursion, option_to_list, map-append, length-append, take-append-drop, flat_map-append, drop-cons, lt-ltb, le-ltb, TooLong, ◌>>=◌, fault, last_or-more, Part, DrillCommand, meaning, canonical, is_sayable, IsInRange, ended_line, bytes_of, HasNoBreak, settings_after, part_after, part_set, is_finish, spelled_after, AreWithinLimit, SpellsText, text_limit, both_true, append-nil, part_with, part_from, are_sayable, is_after_end, drill_sayable, canonical_lines, rewritten_text, eqb-false, not_true}
 use Rattle.drill_lines.specs.declared.command.Part.TheVariants as part
 use Rattle.drill_lines.specs.declared.command.DrillCommand.TheVariants as command
 use Rattle.drill_lines.proofs.CanonicalParses.{parses}
-use Rattle.drill_text.specs.Writing.{part_with, part_from, are_sayable, is_after_end, drill_sayable, canonical_lines, rewritten_text}
 use Rattle.drill_text.proofs.SplitsLemmas.{AllR-append, bytes_of-push}
 
 pub AreTyped : List DrillCommand → Type 0
@@ -13,12 +11,9 @@ AreTyped cs = AllByRecursion IsInRange cs
 pub part_more : (before : List DrillCommand) (c : DrillCommand) → part_after (before ++ c ∷ []) ≡ part_with (part_after before) c
 part_more before c = last_or-more part_set part.Before before c
 
-not_break : (b : ℕ) → not (eqb b 10) ≡ true → b ≢ 10
-not_break b h e = false≢true (sym (ap not (eq-eqb b 10 e)) ∙ h)
-
-no_breaks : (xs : List ℕ) → list_all (λ b. not (eqb b 10)) xs ≡ true → HasNoBreak xs
+pub no_breaks : (xs : List ℕ) → list_all (λ b. not (eqb b 10)) xs ≡ true → HasNoBreak xs
 no_breaks [] h = tt
-no_breaks (x ∷ xs) h = let k = both_true (not (eqb x 10)) (list_all (λ b. not (eqb b 10)) xs) h in (not_break x k.0, no_breaks xs k.1)
+no_breaks (x ∷ xs) h = let k = both_true (not (eqb x 10)) (list_all (λ b. not (eqb b 10)) xs) h in (eqb-false x 10 (not_true (eqb x 10) k.0), no_breaks xs k.1)
 
 -- the lines of commands after others
 record Written (before cs : List DrillCommand) : Type 0 where

@@ -1,6 +1,5 @@
 -- The commands that a text spells are sayable.
-use Rattle.drill_text.proofs.Common.{◌≡◌, ◌≢◌, ℕ, Bool, true, false, not, eqb, List, [], ◌∷◌, ◌++◌, Option, None, Some, Result, Ok, Err, IfOk, refl, sym, ap, subst, ◌∙◌, append_assoc, list_any, list_all, AllByRecursion, option_to_list, eqb-true, Fail, Answers, bind_ok, Strict, Part, DrillCommand, without_end_blanks, meaning, is_sayable, HasNoBreak, settings_after, part_after, Reads, is_finish, plain, spelled_after, AreWithinLimit, SpellsText, IsDrillText, ReadsAs, part_with, part_from, are_sayable, is_after_end, drill_sayable, Commands, Stated, DrillFile, commands_in, file_of, both_true, and_true}
-use Rattle.std.proofs.Common.{append-nil}
+use Rattle.drill_text.proofs.Common.{◌≡◌, ℕ, true, not, eqb, List, [], ◌∷◌, ◌++◌, Option, None, Some, Result, Ok, Err, IfOk, refl, sym, ap, subst, ◌∙◌, append_assoc, list_any, list_all, AllByRecursion, option_to_list, ne_eqb, Fail, Answers, bind_ok, Strict, Part, DrillCommand, without_end_blanks, meaning, is_sayable, HasNoBreak, settings_after, part_after, Reads, is_finish, plain, spelled_after, AreWithinLimit, SpellsText, IsDrillText, ReadsAs, part_with, part_from, are_sayable, is_after_end, drill_sayable, Commands, Stated, DrillFile, commands_in, file_of, both_true, and_true, append-nil}
 use Rattle.grid_units.specs.declared.fault.Fail.TheVariants as fails
 use Rattle.drill_lines.specs.declared.command.Part.TheVariants as part
 use Rattle.drill_lines.specs.declared.command.DrillCommand.TheVariants as command
@@ -10,13 +9,9 @@ use Rattle.drill_text.proofs.SpellsTextLemmas.{drill_text_reads}
 use Rattle.drill_text.proofs.UniqueReading.{one_read_in}
 use Rattle.drill_text.proofs.RoundTrip.{part_more}
 
-not_ten : (b : ℕ) → b ≢ 10 → (t : Bool) → eqb b 10 ≡ t → not t ≡ true
-not_ten b h true e = absurd (h (eqb-true b 10 e))
-not_ten b h false e = refl
-
 no_break : (xs : List ℕ) → HasNoBreak xs → list_all (λ b. not (eqb b 10)) xs ≡ true
 no_break [] h = refl
-no_break (x ∷ xs) h = and_true (not (eqb x 10)) (list_all (λ b. not (eqb b 10)) xs) (not_ten x h.0 (eqb x 10) refl) (no_break xs h.1)
+no_break (x ∷ xs) h = and_true (not (eqb x 10)) (list_all (λ b. not (eqb b 10)) xs) (ap not (ne_eqb x 10 h.0)) (no_break xs h.1)
 
 -- what lines spell after these commands is sayable after them
 record SayableAfter (before new : List DrillCommand) : Type 0 where

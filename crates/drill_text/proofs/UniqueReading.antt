@@ -1,20 +1,16 @@
 -- A text is cut into lines in one way, so it has one reading.
-use Rattle.drill_text.proofs.Common.{◌≡◌, ◌≢◌, ℕ, Bool, true, false, cond, eqb, List, [], ◌∷◌, ◌++◌, length, take, Result, refl, sym, ap, ◌∙◌, append_assoc, fold, AllByRecursion, append-nil, eqb-true, Fault, DrillCommand, bytes_of, HasNoBreak, Splits, Kind, ShowsBy, ReadsBy, shown_within, read_by, text_limit}
+use Rattle.drill_text.proofs.Common.{◌≡◌, ℕ, cond, eqb, List, [], ◌∷◌, ◌++◌, length, take, Result, sym, ap, ◌∙◌, append_assoc, fold, AllByRecursion, append-nil, ne_eqb, Fault, DrillCommand, bytes_of, HasNoBreak, Splits, Kind, ShowsBy, ReadsBy, shown_within, read_by, text_limit}
 use Rattle.std.proofs.lemmas.List.Sums.{fold-append}
 
 -- one more byte: the LF of a line, or another
 next : List (List ℕ) × List ℕ → ℕ → List (List ℕ) × List ℕ
 next c b = cond (eqb b 10) (c.0 ++ c.1 ∷ [], []) (c.0, c.1 ++ b ∷ [])
 
-differ : (b : ℕ) → b ≢ 10 → (t : Bool) → eqb b 10 ≡ t → t ≡ false
-differ b h true e = absurd (h (eqb-true b 10 e))
-differ b h false e = refl
-
 inside : (lines : List (List ℕ)) (a rest : List ℕ) → HasNoBreak rest → fold next (lines, a) rest ≡ (lines, a ++ rest)
 unfolding next
 inside lines a [] h = ap (λ (x : List ℕ). (lines, x)) (sym (append-nil a))
 inside lines a (b ∷ bs) h =
-    ap (λ t. fold next (cond t (lines ++ a ∷ [], []) (lines, a ++ b ∷ [])) bs) (differ b h.0 (eqb b 10) refl)
+    ap (λ t. fold next (cond t (lines ++ a ∷ [], []) (lines, a ++ b ∷ [])) bs) (ne_eqb b 10 h.0)
     ∙ (inside lines (a ++ b ∷ []) bs h.1 ∙ ap (λ (x : List ℕ). (lines, x)) (append_assoc a (b ∷ []) bs))
 
 one_line : (lines : List (List ℕ)) (line : List ℕ) → HasNoBreak line → fold next (lines, []) (line ++ 10 ∷ []) ≡ (lines ++ line ∷ [], [])

@@ -1,16 +1,8 @@
 -- A line that stands in a piece from its first byte to its LF, for a reader that holds no unfinished line.
-use Rattle.drill_text.proofs.Common.{◌≡◌, ◌+◌, ℕ, Bool, true, false, not, eqb, refl, List, [], ◌∷◌, ◌++◌, Ok, Err, length, sym, ap, subst, ◌∙◌, arith, append_assoc, list_all, length-append, eqb-false, both_true, DrillCommand, Fail, IfFault, Progress, HasNoBreak, Splits, bytes_of, Kind, shown_by, spelled_in, Keep, HasReadIn, Holds, Refuses}
+use Rattle.drill_text.proofs.Common.{◌≡◌, ◌+◌, ℕ, List, [], ◌∷◌, ◌++◌, Ok, Err, length, sym, ap, subst, ◌∙◌, arith, append_assoc, length-append, DrillCommand, Fail, IfFault, Progress, HasNoBreak, Splits, bytes_of, Kind, shown_by, spelled_in, Keep, HasReadIn, Holds, Refuses}
 use Rattle.grid_units.specs.declared.fault.Fail.TheVariants.{Memory, Refused}
 use Rattle.drill_text.proofs.SplitsLemmas.{Splits-grow, Splits-close, bytes_of-push}
 use Rattle.drill_text.proofs.PieceLemmas.{closed}
-
-pub no_break : (bs : List ℕ) → list_all (λ b. not (eqb b 10)) bs ≡ true → HasNoBreak bs
-no_break [] h = tt
-no_break (b ∷ bs) h = let k = both_true (not (eqb b 10)) (list_all (λ b. not (eqb b 10)) bs) h in (eqb-false b 10 (negated (eqb b 10) k.0), no_break bs k.1)
-  where
-    negated : (t : Bool) → not t ≡ true → t ≡ false
-    negated true e = absurd cc
-    negated false e = refl
 
 -- the text, followed by this line and its LF
 whole_splits : {p : Kind} {keep : Keep} (old : Progress) (text line : List ℕ) (h : Holds old p keep text) → old.line.items ≡ [] → HasNoBreak line → Splits (text ++ (line ++ 10 ∷ [])) (h.lines ++ line ∷ []) []

@@ -1,28 +1,17 @@
 -- What a whole text shows, from what a reader holds.
 use Rattle.drill_text.proofs.Common.{◌≡◌, ℕ, suc, ◌+◌, ◌<◌, ◌≤◌, cond, ltb, List, ◌++◌, length, Result, Ok, Err, sym, ap, subst, ◌∙◌, arith, append_assoc, take_all, take_at, length-append, lt-ltb, DrillCommand, Fault, Fail, TooLong, Keep, Progress, Splits, ◌>>=◌, fault, Kind, ShowsBy, Holds, HasFault, Refuses, RefusesText, text_limit}
 use Rattle.grid_units.specs.declared.fault.Fail.TheVariants as fails
+use Rattle.drill_text.proofs.FaultsStay.{within_limit}
 
 -- the length is checked last: where the first bytes of a text show a fault, the whole shows it too
 checks_len : ℕ → List (List ℕ) → List DrillCommand → Result (List DrillCommand) Fault
 checks_len len items commands = cond (ltb text_limit len) (Err (fault (suc (length items)) text_limit TooLong)) (Ok commands)
 
 pub fault_within : (p : Kind) (text : List ℕ) (f : Fault) → length text ≤ text_limit → HasFault p text f → ShowsBy p text (Err f)
-unfolding checks_len
-fault_within p text f le h = record {
-  lines = h.lines;
-  rest = h.rest;
-  splits = subst (λ (t : List ℕ). Splits t h.lines h.rest) (sym (take_all text_limit text le)) h.splits;
-  answer_is = sym (ap (λ r. r >>= checks_len (length text) h.lines) h.fault);
-}
+fault_within p text f le h = within_limit p text f (subst (λ (t : List ℕ). HasFault p t f) (sym (take_all text_limit text le)) h)
 
 pub fault_of_prefix : (p : Kind) (prefix more : List ℕ) (f : Fault) → length prefix ≡ text_limit → HasFault p prefix f → ShowsBy p (prefix ++ more) (Err f)
-unfolding checks_len
-fault_of_prefix p prefix more f e h = record {
-  lines = h.lines;
-  rest = h.rest;
-  splits = subst (λ (t : List ℕ). Splits t h.lines h.rest) (sym (take_at prefix more text_limit e)) h.splits;
-  answer_is = sym (ap (λ r. r >>= checks_len (length (prefix ++ more)) h.lines) h.fault);
-}
+fault_of_prefix p prefix more f e h = within_limit p (prefix ++ more) f (subst (λ (t : List ℕ). HasFault p t f) (sym (take_at prefix more text_limit e)) h)
 
 pub too_long_text : {p : Kind} {keep : Keep} (r : Progress) (prefix more : List ℕ) → length prefix ≡ text_limit → 0 < length more → Holds r p keep prefix → ShowsBy p (prefix ++ more) (Err (fault (r.lines + 1) text_limit TooLong))
 unfolding checks_len

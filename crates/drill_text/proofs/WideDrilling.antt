@@ -1,11 +1,9 @@
 -- The legal commands of a wide text drill in the body alone, and so they drill the holes that are listed of them.
-use Rattle.drill_text.proofs.Common.{◌≡◌, ℕ, true, List, [], ◌∷◌, ◌++◌, Option, None, Some, inl, inr, refl, sym, subst, ◌∙◌, append_assoc, option_to_list, Part, Settings, DrillCommand, Wide, without_end_blanks, IsAlone, Machine, machine_after, settings_after, part_after, drills, AreEntries, IsEntry, WideHolesAreDrilled}
-use Rattle.std.proofs.Common.{append-nil}
+use Rattle.drill_text.proofs.Common.{◌≡◌, ℕ, true, List, [], ◌∷◌, ◌++◌, Option, None, Some, inl, inr, refl, sym, subst, ◌∙◌, append_assoc, option_to_list, Part, Settings, DrillCommand, Wide, without_end_blanks, IsAlone, Machine, machine_after, settings_after, part_after, drills, AreEntries, IsEntry, WideHolesAreDrilled, append-nil, map}
 use Rattle.drill_lines.specs.declared.command.Part.TheVariants as part
 use Rattle.drill_lines.specs.declared.command.DrillCommand.TheVariants as command
 use Rattle.drill_text.proofs.DrillingLemmas.{AreInBody, legal_are_drilled}
 use Rattle.drill_text.proofs.RoundTrip.{part_more}
-use Rattle.std.specs.Prelude.{map}
 
 -- these commands come after others, and drill in the body alone
 record InBodyAfter (before new : List DrillCommand) : Type 0 where
@@ -46,4 +44,4 @@ spelled_in_body earlier before (entry ∷ entries) commands h =
 pub wide_holes_are_drilled : WideHolesAreDrilled
 wide_holes_are_drilled text commands written legal =
     let all = spelled_in_body [] [] written.entries commands written.spells in
-    legal_are_drilled commands legal (subst (AreInBody part.Before) (sym all.whole) all.stands)
+    legal_are_drilled Wide commands legal (subst (AreInBody part.Before) (sym all.whole) all.stands)

@@ -1,10 +1,10 @@
 -- A text of the wide profile, by its grammar, is read as its commands. By the grammar of each profile a text has one list of commands.
-use Rattle.drill_text.proofs.Common.{◌≡◌, ◌⊎◌, inl, inr, ℕ, suc, Bool, true, false, cond, List, [], ◌∷◌, ◌++◌, length, map, Option, None, Some, unwrap_or, Result, Ok, Err, refl, sym, ap, subst, ◌∙◌, arith, append_assoc, option_to_list, append-nil, BadLine, Reason, Routed, ◌>>=◌, fault, with_place, IsLegal, and_false, bind_ok, Coordinates, Machine, Part, Settings, DrillCommand, Slot, Strict, Wide, without_end_blanks, meaning, starts, lowers, cuts, last_line, is_routing, machine_after, part_row, says_nothing, unless_routing, other_line, wide_meaning, IsAlone, IsRoute, IsFree, written_is_answered, bytes_of, settings_after, broken_rule, commands_by, plain, spelled_in, with_rest, AreWithinLimit, spelled_after, AreEntries, IsText, lines_of, IsTextOfAtMostOne, WrittenIsRead}
+use Rattle.drill_text.proofs.Common.{◌≡◌, ◌⊎◌, inl, inr, ℕ, suc, Bool, true, false, cond, List, [], ◌∷◌, ◌++◌, length, map, Option, None, Some, unwrap_or, Result, Ok, Err, refl, sym, ap, subst, ◌∙◌, arith, append_assoc, option_to_list, append-nil, BadLine, Reason, Routed, ◌>>=◌, fault, with_place, IsLegal, and_false, bind_ok, Coordinates, Machine, Part, Settings, DrillCommand, Slot, Strict, Wide, without_end_blanks, meaning, starts, lowers, cuts, last_line, is_routing, machine_after, part_row, says_nothing, unless_routing, other_line, wide_meaning, IsAlone, IsRoute, IsFree, written_is_answered, bytes_of, settings_after, broken_rule_in, commands_by, plain, spelled_in, with_rest, AreWithinLimit, spelled_after, AreEntries, IsText, lines_of, IsTextOfAtMostOne, WrittenIsRead}
 use Rattle.drill_lines.specs.declared.command.Part.TheVariants as part
 use Rattle.drill_lines.proofs.RouteLemmas.{alone_read, early_end_read, empty_stands, meaning_by, old_read, route_read}
 use Rattle.drill_text.proofs.FirstFaults.{cut}
 use Rattle.drill_text.proofs.GrammarLemmas.{end_found, lines_in, same_lines, text_spells}
-use Rattle.drill_text.proofs.SpellsTextLemmas.{keeps_judged, legal_prefix, last_short}
+use Rattle.drill_text.proofs.SpellsTextLemmas.{keeps_judged, legal_start, last_short}
 use Rattle.drill_text.proofs.SpelledLemmas.{trimmed_more}
 use Rattle.drill_text.proofs.ProfileLemmas.{commands_by-push, ended_so, spelled_in_is}
 
@@ -77,14 +77,14 @@ spelled_begins e before (line ∷ lines) cs h =
     let k = spelled_begins (e ++ line ∷ []) (before ++ option_to_list b.0) lines cs b.2 in
     (option_to_list b.0 ++ k.0, k.1 ∙ append_assoc before (option_to_list b.0) k.0)
 
-spelled_read : (e : List (List ℕ)) (before : List DrillCommand) (lines : List (List ℕ)) (cs : List DrillCommand) → AreWithinLimit lines → wide_spelled e before lines ≡ Ok cs → IsLegal broken_rule cs → commands_by (plain Wide) e lines before ≡ Ok cs
+spelled_read : (e : List (List ℕ)) (before : List DrillCommand) (lines : List (List ℕ)) (cs : List DrillCommand) → AreWithinLimit lines → wide_spelled e before lines ≡ Ok cs → IsLegal (broken_rule_in Wide) cs → commands_by (plain Wide) e lines before ≡ Ok cs
 unfolding wide_spelled
 spelled_read e before [] cs short h legal = let same : before ≡ cs = cc in ap (λ (x : List DrillCommand). Ok x) same
 spelled_read e before (line ∷ lines) cs short h legal =
     let b = bind_ok (wide_meaning (map without_end_blanks e) (settings_after before) (without_end_blanks line)) (λ c. wide_spelled (e ++ line ∷ []) (before ++ option_to_list c) lines) cs h in
     let now : List DrillCommand = before ++ option_to_list b.0 in
     let more = spelled_begins (e ++ line ∷ []) now lines cs b.2 in
-    let kept = keeps_judged before b.0 (legal_prefix now more.0 (subst (IsLegal broken_rule) more.1 legal)) in
+    let kept = keeps_judged Wide before b.0 (legal_start (broken_rule_in Wide) now more.0 (subst (IsLegal (broken_rule_in Wide)) more.1 legal)) in
     ap (λ r. r >>= commands_by (plain Wide) (e ++ line ∷ []) lines) (spelled_in_is (plain Wide) e line before (Ok b.0) short.0 b.1 ∙ ap (with_place (suc (length e)) (length (bytes_of e))) kept)
     ∙ spelled_read (e ++ line ∷ []) now lines cs short.1 b.2 legal
 

@@ -1,5 +1,5 @@
 -- A text that is read in the strict profile is read alike in the wide one.
-use Rattle.drill_text.proofs.Common.{◌≡◌, ℕ, suc, cond, ltb, List, [], ◌∷◌, ◌++◌, length, map, Ok, Err, refl, sym, ap, subst, ◌∙◌, append_assoc, append-nil, TooLong, ◌>>=◌, with_place, bind_ok, line_limit, DrillCommand, Strict, Wide, without_end_blanks, meaning, machine_after, wide_meaning, IsFree, bytes_of, settings_after, Reads, ReadsIn, commands_with, commands_by, plain, spelled_in, step_in, with_rest}
+use Rattle.drill_text.proofs.Common.{◌≡◌, ℕ, suc, Bool, true, false, cond, ltb, List, [], ◌∷◌, ◌++◌, length, map, Option, None, Some, Ok, Err, refl, sym, ap, subst, ◌∙◌, append_assoc, append-nil, Reason, TooLong, ◌>>=◌, with_place, bind_ok, line_limit, DrillCommand, Strict, Wide, without_end_blanks, meaning, machine_after, wide_meaning, IsFree, bytes_of, settings_after, state_after, broken_rule, defines_alike, Reads, ReadsIn, add_unless, commands_by, plain, spelled_in, step_in, with_rest, checked_by, broken_rule_in}
 use Rattle.drill_lines.specs.declared.route.Machine.TheVariants as machine
 use Rattle.drill_lines.proofs.RouteLemmas.{strict_line}
 use Rattle.drill_text.proofs.SpelledLemmas.{trimmed_more}
@@ -10,15 +10,25 @@ record IsDrilling (earlier : List (List ℕ)) : Type 0 where
   free : IsFree (map without_end_blanks earlier)
   drills : machine_after (map without_end_blanks earlier) ≡ machine.Drilling
 
+-- a command that breaks no rule in the strict profile breaks none in the wide one
+judged_alike : (before : List DrillCommand) (command : Option DrillCommand) (cs : List DrillCommand) → checked_by (broken_rule_in Strict) before command ≡ Ok cs → checked_by (broken_rule_in Wide) before command ≡ Ok cs
+judged_alike before None cs e = e
+judged_alike before (Some c) cs e = by (broken_rule before c) (defines_alike (state_after before) c) e
+  where
+    by : (o : Option Reason) (t : Bool) → add_unless o before c ≡ Ok cs → add_unless (cond t None o) before c ≡ Ok cs
+    by None true k = k
+    by None false k = k
+    by (Some r) t k = absurd cc
+
 step_alike : (earlier : List (List ℕ)) (line : List ℕ) (before cs : List DrillCommand) → IsDrilling earlier → step_in (plain Strict) earlier before line ≡ Ok cs → (step_in (plain Wide) earlier before line ≡ Ok cs) × IsDrilling (earlier ++ line ∷ [])
 unfolding step_in
 step_alike earlier line before cs h e =
     let s = settings_after before in
-    let g = guarded (ltb line_limit (length line)) TooLong (meaning s (without_end_blanks line) >>= commands_with before) cs e in
-    let b = bind_ok (meaning s (without_end_blanks line)) (commands_with before) cs g.1 in
+    let g = guarded (ltb line_limit (length line)) TooLong (meaning s (without_end_blanks line) >>= checked_by (broken_rule_in Strict) before) cs e in
+    let b = bind_ok (meaning s (without_end_blanks line)) (checked_by (broken_rule_in Strict) before) cs g.1 in
     let k = strict_line s (map without_end_blanks earlier) (without_end_blanks line) b.0 h.free h.drills b.1 in
     let same : map without_end_blanks earlier ++ without_end_blanks line ∷ [] ≡ map without_end_blanks (earlier ++ line ∷ []) = sym (trimmed_more earlier line) in (
-      ap (λ t. cond t (Err TooLong) (wide_meaning (map without_end_blanks earlier) s (without_end_blanks line) >>= commands_with before)) g.0 ∙ (ap (λ m. m >>= commands_with before) k.0 ∙ b.2),
+      ap (λ t. cond t (Err TooLong) (wide_meaning (map without_end_blanks earlier) s (without_end_blanks line) >>= checked_by (broken_rule_in Wide) before)) g.0 ∙ (ap (λ m. m >>= checked_by (broken_rule_in Wide) before) k.0 ∙ judged_alike before b.0 cs b.2),
       record { free = subst IsFree same k.1.0; drills = ap machine_after (sym same) ∙ k.1.1 },
     )
 

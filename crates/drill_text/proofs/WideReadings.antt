@@ -1,5 +1,5 @@
 -- A text that is read in the wide profile is a wide text, by its grammar, of what it is read as.
-use Rattle.drill_text.proofs.Common.{◌≡◌, ◌≤◌, inl, inr, ℕ, suc, Bool, true, false, ltb, ◌||◌, List, [], ◌∷◌, ◌++◌, length, map, Option, None, Some, Ok, refl, sym, ap, subst, ◌∙◌, arith, append_assoc, codes, list_any, option_to_list, ltb-false, append-nil, flat_map-append, TooLong, ◌>>=◌, IsLegal, line_limit, and_false, last_or-more, list_any-more, bind_ok, Coordinates, Machine, Part, Settings, DrillCommand, Wide, without_end_blanks, line_in, is_routing, machine_after, may_stand, wide_meaning, IsAlone, IsRoute, IsLater, IsRouteAfter, read_in_part, means, written_is_answered, bytes_of, part_set, part_after, settings_after, broken_rule, commands_with, commands_by, is_finish, plain, spelled_in, step_in, with_rest, AreWithinLimit, IsEntry, AreEntries, lines_of, ReadIsWritten}
+use Rattle.drill_text.proofs.Common.{◌≡◌, ◌≤◌, inl, inr, ℕ, suc, Bool, true, false, ltb, ◌||◌, List, [], ◌∷◌, ◌++◌, length, map, Option, None, Some, Ok, refl, sym, ap, subst, ◌∙◌, arith, append_assoc, codes, list_any, option_to_list, ltb-false, append-nil, flat_map-append, TooLong, ◌>>=◌, IsLegal, line_limit, and_false, last_or-more, list_any-more, bind_ok, Coordinates, Machine, Part, Settings, DrillCommand, Wide, without_end_blanks, line_in, is_routing, machine_after, may_stand, wide_meaning, IsAlone, IsRoute, IsLater, IsRouteAfter, read_in_part, means, written_is_answered, bytes_of, part_set, part_after, settings_after, broken_rule_in, commands_by, is_finish, plain, spelled_in, step_in, with_rest, AreWithinLimit, IsEntry, AreEntries, lines_of, ReadIsWritten, checked_by}
 use Rattle.drill_lines.specs.declared.command.Part.TheVariants as part
 use Rattle.drill_lines.specs.declared.command.DrillCommand.TheVariants as command
 use Rattle.drill_lines.specs.declared.route.Machine.TheVariants as machine
@@ -171,7 +171,7 @@ record IsParsed (earlier : List (List ℕ)) (before : List DrillCommand) : Type 
   grouped : IsGrouped earlier before r
   at : IsRouteAfter r (settings_after before) (map without_end_blanks earlier)
   short : AreWithinLimit earlier
-  legal : IsLegal broken_rule before
+  legal : IsLegal (broken_rule_in Wide) before
   ends : EndsPart before
 
 later_settings : (before : List DrillCommand) (c : Option DrillCommand) → IsLater c (settings_after before) (settings_after (before ++ option_to_list c))
@@ -186,10 +186,10 @@ parsed_more : (earlier : List (List ℕ)) (before after : List DrillCommand) (li
 unfolding step_in
 parsed_more earlier before after line h e =
     let s = settings_after before in
-    let g = guarded (ltb line_limit (length line)) TooLong (wide_meaning (map without_end_blanks earlier) s (without_end_blanks line) >>= commands_with before) after e in
-    let b = bind_ok (wide_meaning (map without_end_blanks earlier) s (without_end_blanks line)) (commands_with before) after g.1 in
+    let g = guarded (ltb line_limit (length line)) TooLong (wide_meaning (map without_end_blanks earlier) s (without_end_blanks line) >>= checked_by (broken_rule_in Wide) before) after e in
+    let b = bind_ok (wide_meaning (map without_end_blanks earlier) s (without_end_blanks line)) (checked_by (broken_rule_in Wide) before) after g.1 in
     let c = b.0 in
-    let j = judged_ok before c after b.2 in
+    let j = judged_ok Wide before c after b.2 in
     let k = reads_on h.r s (map without_end_blanks earlier) (without_end_blanks line) c h.at b.1 in
     let now : List DrillCommand = before ++ option_to_list c in
     subst (IsParsed (earlier ++ line ∷ [])) j.0 (record {
@@ -197,7 +197,7 @@ parsed_more earlier before after line h e =
       grouped = grouped_more h.r earlier before line c k.next h.grouped h.at k.written;
       at = subst (λ (l : List (List ℕ)). IsRouteAfter k.next (settings_after now) l) (sym (trimmed_more earlier line)) (k.after (settings_after now) (later_settings before c));
       short = AllR-append (λ l. length l ≤ line_limit) earlier (line ∷ []) h.short (ltb-false _ _ g.0, tt);
-      legal = subst (IsLegal broken_rule) (sym j.0) (j.1 h.legal);
+      legal = subst (IsLegal (broken_rule_in Wide)) (sym j.0) (j.1 h.legal);
       ends = ends_after before c h.ends (λ d same. never_after h.r before (machine_after (map without_end_blanks (lines_in h.grouped.entries))) line d k.next h.grouped.pending h.grouped.waits (subst (λ (o : Option DrillCommand). IsWritten h.r s (without_end_blanks line) o k.next) same k.written));
     })
 

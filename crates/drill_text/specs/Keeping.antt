@@ -8,7 +8,6 @@ use Rattle.drill_lines.specs.declared.command.DrillCommand.{DrillCommand}
 use Rattle.drill_lines.specs.declared.line_reader.LineReader.{LineReader}
 use Rattle.drill_lines.specs.Lines.{without_end_blanks}
 use Rattle.drill_lines.specs.LineReading.{HasReadLines}
-use Rattle.drill_text.specs.declared.platings.PlatingKind.{PlatingKind}
 use Rattle.drill_text.specs.declared.state.DrillState.{DrillState}
 use Rattle.drill_text.specs.Lookback.{settings_after}
 use Rattle.drill_text.specs.declared.kept.Keep.{Keep}
@@ -29,20 +28,20 @@ pub record KeepsCommands (kept : KeptCommands) (keep : Keep) (taken : List Drill
 abbrev pub KeepsNext : KeptCommands → DrillCommand → KeptCommands → Type 0
 KeepsNext old c new = (keep : Keep) (taken : List DrillCommand) → KeepsCommands old keep taken → KeepsCommands new keep (taken ++ c ∷ [])
 
--- the state is that after just these commands of a file whose platings are known so, and what was asked for is kept of them
-pub record HasRead (state : DrillState) (kept : KeptCommands) (plating : PlatingKind) (keep : Keep) (commands : List DrillCommand) : Type 0 where
-  pub is_state : IsStateAfter state plating commands
+-- the state is that after just these commands of a file of this kind, and what was asked for is kept of them
+pub record HasRead (state : DrillState) (kept : KeptCommands) (kind : Kind) (keep : Keep) (commands : List DrillCommand) : Type 0 where
+  pub is_state : IsStateAfter state kind commands
   pub keeps : KeepsCommands kept keep commands
 
 -- The command was judged: the state is now that after the commands after it; or this is its fault, or memory ran out.
-abbrev pub ResultsIn : {X : Type 0} → Result X Fail → DrillState → KeptCommands → PlatingKind → Keep → Result (List DrillCommand) Fault → Type 0
-ResultsIn (Ok x) state kept plating keep read = (commands : List DrillCommand) × (read ≡ Ok commands) × HasRead state kept plating keep commands
-ResultsIn (Err e) state kept plating keep read = IfFault (λ f. read ≡ Err f) e
+abbrev pub ResultsIn : {X : Type 0} → Result X Fail → DrillState → KeptCommands → Kind → Keep → Result (List DrillCommand) Fault → Type 0
+ResultsIn (Ok x) state kept kind keep read = (commands : List DrillCommand) × (read ≡ Ok commands) × HasRead state kept kind keep commands
+ResultsIn (Err e) state kept kind keep read = IfFault (λ f. read ≡ Err f) e
 
 -- these lines of a file of this kind were read, the state is that after just these commands, and what was asked for is kept of them
 pub record HasReadIn (reader : LineReader) (state : DrillState) (kept : KeptCommands) (kind : Kind) (keep : Keep) (earlier : List (List ℕ)) (commands : List DrillCommand) : Type 0 where
   pub lines : HasReadLines reader kind.profile (settings_after commands) (map without_end_blanks earlier)
-  pub has_read : HasRead state kept kind.plating keep commands
+  pub has_read : HasRead state kept kind keep commands
 
 -- The line was read and judged: the state is now that after the commands after it; or this is its fault, or memory ran out.
 abbrev pub ResultsInLine : {X : Type 0} → Result X Fail → LineReader → DrillState → KeptCommands → Kind → Keep → List (List ℕ) → List ℕ → Result (List DrillCommand) Fault → Type 0

@@ -8,7 +8,7 @@ use Rattle.grid_units.specs.Lists.{IsLegal}
 use Rattle.grid_units.specs.declared.profile.Profile.{Profile}
 use Rattle.grid_units.specs.declared.profile.Profile.TheVariants.{Strict, Wide}
 use Rattle.drill_text.specs.Profiles.{ReadsIn}
-use Rattle.drill_text.specs.Rules.{broken_rule}
+use Rattle.drill_text.specs.Rules.{broken_rule_in}
 use Rattle.drill_text.specs.Texts.{AreWithinLimit, SpellsText, IsDrillText}
 use Rattle.drill_text.specs.Drilling.{AreHoles}
 use Rattle.drill_text.specs.Grammar.{lines_of, IsText}
@@ -39,12 +39,12 @@ IsTextOfAtMostOne = (profile : Profile) (t : List ℕ) (cs other : List DrillCom
 
 -- a text of legal commands, by the grammar of the wide profile, is read as these in it, if neither the text nor a line is too long
 abbrev pub WrittenIsRead : Type 0
-WrittenIsRead = (t : List ℕ) (cs : List DrillCommand) → IsWithinLimits t → IsText Wide t cs → IsLegal broken_rule cs → ReadsIn Wide t (Ok cs)
+WrittenIsRead = (t : List ℕ) (cs : List DrillCommand) → IsWithinLimits t → IsText Wide t cs → IsLegal (broken_rule_in Wide) cs → ReadsIn Wide t (Ok cs)
 
 -- a text that is read as commands in the wide profile is a text of them by its grammar, they are legal, and neither the text nor a line is too long
 abbrev pub ReadIsWritten : Type 0
-ReadIsWritten = (t : List ℕ) (cs : List DrillCommand) → ReadsIn Wide t (Ok cs) → IsWithinLimits t × IsText Wide t cs × IsLegal broken_rule cs
+ReadIsWritten = (t : List ℕ) (cs : List DrillCommand) → ReadsIn Wide t (Ok cs) → IsWithinLimits t × IsText Wide t cs × IsLegal (broken_rule_in Wide) cs
 
 -- the legal commands of a text of the wide profile drill the holes that are listed of them
 abbrev pub WideHolesAreDrilled : Type 0
-WideHolesAreDrilled = (t : List ℕ) (cs : List DrillCommand) → IsText Wide t cs → IsLegal broken_rule cs → AreHoles cs (holes_of cs)
+WideHolesAreDrilled = (t : List ℕ) (cs : List DrillCommand) → IsText Wide t cs → IsLegal (broken_rule_in Wide) cs → AreHoles cs (holes_of cs)

@@ -1,7 +1,7 @@
 -- What the commands before a line say; each definition looks back over them (docs/FORMATS.md, Drill lines of the four parts; Drill coordinates).
-use Rattle.std.specs.Prelude.{ℕ, ℤ, Bool, true, false, ◌==◌, List, [], ◌∷◌, Option, None, Some, unwrap_or, if◌then◌else◌}
-use Rattle.std.specs.List.{list_any, flat_map, filter_map}
-use Rattle.grid_units.specs.Lists.{last_set}
+use Rattle.std.specs.Prelude.{ℕ, ℤ, Bool, true, false, ◌==◌, List, [], ◌∷◌, Option, None, Some, is_some, unwrap_or, if◌then◌else◌}
+use Rattle.std.specs.List.{list_any, flat_map}
+use Rattle.grid_units.specs.Lists.{last_set, with_prefixes}
 use Rattle.grid_units.specs.declared.lengths.Unit.{Unit as Units}
 use Rattle.grid_units.specs.declared.zero_filling.Zeros.{Zeros}
 use Rattle.drill_lines.specs.declared.command.Part.{Part}
@@ -71,15 +71,6 @@ abbrev pub diameter_set : ℕ → DrillCommand → Option ℤ
 diameter_set number (command.Tool other diameter) = if other == number then Some diameter else None
 diameter_set number _ = None
 
--- the tool that a command defines, with its diameter: (1, 40000000) of `T1C0.4`
-abbrev pub tool_defined : DrillCommand → Option (ℕ × ℤ)
-tool_defined (command.Tool number diameter) = Some (number, diameter)
-tool_defined _ = None
-
--- the tools with their diameters, in order of definition
-abbrev pub tools_of : List DrillCommand → List (ℕ × ℤ)
-tools_of commands = filter_map tool_defined commands
-
 -- the tool that a command picks: 1 of `T1` in the body, 0 of `T0`
 abbrev pub tool_set : DrillCommand → Option ℕ
 tool_set (command.Pick number) = Some number
@@ -124,3 +115,12 @@ state_after before = record {
   x = last_set x_set (points_of before);
   y = last_set y_set (points_of before);
 }
+
+-- the tool that a command defines for the first time, by the diameters given before, as a list of one or none: (1, 40000000) of `T1C0.4`
+abbrev pub tools_at : (ℕ → Option ℤ) → DrillCommand → List (ℕ × ℤ)
+tools_at given (command.Tool number diameter) = if is_some (given number) then [] else (number, diameter) ∷ []
+tools_at given _ = []
+
+-- the tools with their diameters, in order of their first definitions
+abbrev pub tools_of : List DrillCommand → List (ℕ × ℤ)
+tools_of commands = flat_map (λ p. tools_at (state_after p.0).diameter p.1) (with_prefixes commands)

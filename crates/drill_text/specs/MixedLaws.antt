@@ -16,7 +16,7 @@ KindsReadTheSame = (kind : Kind) (text : List ℕ) (commands : List DrillCommand
 abbrev pub UncontradictedIsLegal : Type 0
 UncontradictedIsLegal = (commands : List DrillCommand) → (IsLegal contradiction_rule commands) ↔ (list_any calls_plated commands ≡ false)
 
--- where no command breaks NoPlating, each hole is called what is listed of it
+-- where no command breaks the rules of mixed files, each hole is called what is listed of it
 abbrev pub ListedIsCalled : Type 0
 ListedIsCalled = (commands : List DrillCommand) → IsLegal plating_rule commands → AreCalled commands (plated_of commands)
 

@@ -5,7 +5,8 @@ use Rattle.std.specs.Option.{option_and_then, option_or}
 use Rattle.std.specs.List.{filter, flat_map, list_any, AllZip}
 use Rattle.grid_units.specs.Lists.{last_set, with_prefixes}
 use Rattle.grid_units.specs.declared.fault.Reason.{Reason}
-use Rattle.grid_units.specs.declared.fault.Reason.TheVariants.{NoPlating, PlatingConflict}
+use Rattle.grid_units.specs.declared.fault.Reason.TheVariants.{NoPlating, PlatingConflict, Redefined}
+use Rattle.grid_units.specs.declared.profile.Profile.{Profile}
 use Rattle.drill_lines.specs.declared.command.DrillCommand.{DrillCommand}
 use Rattle.drill_lines.specs.declared.command.DrillCommand.TheVariants as command
 use Rattle.drill_lines.specs.declared.plating.Plating.{Plating}
@@ -14,7 +15,7 @@ use Rattle.drill_lines.specs.Plating.{said_plating, says_plated, says_unplated}
 use Rattle.drill_text.specs.declared.platings.PlatingKind.{PlatingKind}
 use Rattle.drill_text.specs.declared.platings.PlatingKind.TheVariants as kind
 use Rattle.drill_text.specs.Lookback.{ends_header, tool_set}
-use Rattle.drill_text.specs.Rules.{broken_rule, drills}
+use Rattle.drill_text.specs.Rules.{broken_rule_in, differs, drills}
 
 -- ---- tools
 
@@ -77,9 +78,22 @@ is_unsaid _ = false
 abbrev pub lacks_plating : List DrillCommand → DrillCommand → Bool
 lacks_plating before c = (drills c && is_unsaid (plating_after before)) || (is_some (plating_set c) && list_any ends_header before)
 
--- the rule that mixed files have beside the others
+-- the same is said of two tools
+abbrev pub same_plating : Plating → Plating → Bool
+same_plating plating.Plated plating.Plated = true
+same_plating plating.Unplated plating.Unplated = true
+same_plating plating.Unsaid plating.Unsaid = true
+same_plating _ _ = false
+
+-- a tool is defined again, and what is said of it now is not what it was: `T1C0.4` after `TYPE=PLATED`, and again after `TYPE=NON_PLATED`
+abbrev pub redefines_plating : Plating → (ℕ → Option Plating) → DrillCommand → Bool
+redefines_plating said earlier (command.Tool number _) = differs same_plating (Some said) (earlier number)
+redefines_plating said earlier _ = false
+
+-- the rules that mixed files have beside the others; of these a command breaks at most one
 abbrev pub plating_rule : List DrillCommand → DrillCommand → Option Reason
-plating_rule before c = if lacks_plating before c then Some NoPlating else None
+plating_rule before c =
+    if redefines_plating (said_after before) (plating_of_tool before) c then Some Redefined else if lacks_plating before c then Some NoPlating else None
 
 -- ---- the rule of unplated files
 
@@ -113,12 +127,8 @@ own_rule kind.Stated before c = None
 own_rule kind.Unplated before c = contradiction_rule before c
 own_rule kind.Mixed before c = plating_rule before c
 
--- the first rule that a command breaks after the commands before it, where a rule stands after those of every file
-abbrev pub rule_with : (List DrillCommand → DrillCommand → Option Reason) → List DrillCommand → DrillCommand → Option Reason
-rule_with own before c = option_or (broken_rule before c) (own before c)
-
--- the first rule that a command breaks in a file of a kind: the own rule of the kind is the last
-abbrev pub rule_in : PlatingKind → List DrillCommand → DrillCommand → Option Reason
-rule_in kind.Stated = broken_rule
-rule_in kind.Unplated = rule_with contradiction_rule
-rule_in kind.Mixed = rule_with plating_rule
+-- the first rule that a command breaks in a file of a kind after the commands before it: the own rule of the kind is the last
+abbrev pub rule_in : Profile → PlatingKind → List DrillCommand → DrillCommand → Option Reason
+rule_in profile kind.Stated = broken_rule_in profile
+rule_in profile kind.Unplated = λ before c. option_or (broken_rule_in profile before c) (contradiction_rule before c)
+rule_in profile kind.Mixed = λ before c. option_or (broken_rule_in profile before c) (plating_rule before c)

@@ -17,7 +17,6 @@ use Rattle.drill_text.specs.declared.platings.PlatingKind.TheVariants as plating
 use Rattle.drill_text.specs.Lines.{bytes_of, Splits}
 use Rattle.drill_text.specs.Lookback.{settings_after}
 use Rattle.drill_text.specs.Plating.{rule_in}
-use Rattle.drill_text.specs.Rules.{broken_rule}
 use Rattle.grid_units.specs.Limits.{text_limit, line_limit}
 
 -- the kind of a drill file: in which profile it is read, and by what it is known which of its holes are plated
@@ -49,15 +48,11 @@ abbrev pub checked_by : (List DrillCommand → DrillCommand → Option Reason) �
 checked_by rule before None = Ok before
 checked_by rule before (Some c) = add_unless (rule before c) before c
 
--- the same by the rules of every drill file
-abbrev pub commands_with : List DrillCommand → Option DrillCommand → Result (List DrillCommand) Reason
-commands_with before = checked_by broken_rule before
-
 -- one more line after these, which spell these commands: TooLong above 1,048,576 bytes; else it is read by what stands before it, and judged
 unfoldable pub step_in : Kind → List (List ℕ) → List DrillCommand → List ℕ → Result (List DrillCommand) Reason
 step_in kind earlier before line =
     if nat_lt line_limit (length line) then Err TooLong
-    else (meaning_in kind.profile (map without_end_blanks earlier) (settings_after before) (without_end_blanks line) >>= checked_by (rule_in kind.plating) before)
+    else (meaning_in kind.profile (map without_end_blanks earlier) (settings_after before) (without_end_blanks line) >>= checked_by (rule_in kind.profile kind.plating) before)
 
 -- one more line after these; a refusal is its fault, at the number of the line, from 1, and at the offset of its first byte
 abbrev pub spelled_in : Kind → List (List ℕ) → List ℕ → List DrillCommand → Result (List DrillCommand) Fault

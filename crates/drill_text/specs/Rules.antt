@@ -2,6 +2,7 @@
 use Rattle.std.specs.Prelude.{ℕ, ℤ, pos, Bool, true, false, not, ◌==◌, ◌&&◌, ◌||◌, nat_le, int_le, List, [], ◌∷◌, length, Option, None, Some, is_none, is_some, Result, Err, if◌then◌else◌}
 use Rattle.std.specs.Option.{option_map_or}
 use Rattle.std.specs.List.{find}
+use Rattle.std.specs.Ordering.{int_eq}
 use Rattle.grid_units.specs.declared.fault.Reason.{Reason}
 use Rattle.grid_units.specs.declared.fault.Reason.TheVariants as reason
 use Rattle.grid_units.specs.Numbers.{is_too_far, within_limit}
@@ -9,6 +10,8 @@ use Rattle.grid_units.specs.declared.lengths.Unit.{Unit as Units}
 use Rattle.grid_units.specs.declared.lengths.Unit.TheVariants as unit
 use Rattle.grid_units.specs.declared.zero_filling.Zeros.{Zeros}
 use Rattle.grid_units.specs.declared.zero_filling.Zeros.TheVariants as zeros
+use Rattle.grid_units.specs.declared.profile.Profile.{Profile}
+use Rattle.grid_units.specs.declared.profile.Profile.TheVariants.{Strict, Wide}
 use Rattle.drill_lines.specs.declared.command.DrillCommand.{DrillCommand}
 use Rattle.drill_lines.specs.declared.command.DrillCommand.TheVariants as command
 use Rattle.drill_lines.specs.Formats.{Digits}
@@ -53,6 +56,11 @@ lacks_unit s _ = false
 abbrev pub redefines_tool : StateView → DrillCommand → Bool
 redefines_tool s (command.Tool number _) = is_some (s.diameter number)
 redefines_tool s _ = false
+
+-- a tool is defined whose number was defined before, with just this diameter
+abbrev pub defines_alike : StateView → DrillCommand → Bool
+defines_alike s (command.Tool number diameter) = option_map_or (λ earlier. int_eq earlier diameter) (s.diameter number) false
+defines_alike s _ = false
 
 -- a tool other than 0 is picked, and it is not defined
 abbrev pub picks_unknown_tool : StateView → DrillCommand → Bool
@@ -118,3 +126,12 @@ first_broken s count drill_path c = find (applies s count drill_path c) rules
 -- the first rule that a command breaks after the commands before it
 abbrev pub broken_rule : List DrillCommand → DrillCommand → Option Reason
 broken_rule before c = first_broken (state_after before) (length (holes_of before)) (path_at before c) c
+
+-- the same in a profile: in the wide one a tool may be defined again just as before
+abbrev pub first_broken_in : Profile → StateView → ℕ → Option DrillPath → DrillCommand → Option Reason
+first_broken_in Strict s count drill_path c = first_broken s count drill_path c
+first_broken_in Wide s count drill_path c = if defines_alike s c then None else first_broken s count drill_path c
+
+-- the first rule that a command breaks in a profile after the commands before it
+abbrev pub broken_rule_in : Profile → List DrillCommand → DrillCommand → Option Reason
+broken_rule_in profile before c = first_broken_in profile (state_after before) (length (holes_of before)) (path_at before c) c

@@ -4,10 +4,10 @@ ghost use Rattle.std.specs.Prelude.{◌≡◌, List};
 ghost use Rattle.grid_units.specs.Results.{AnswersAlways};
 ghost use Rattle.drill_lines.specs.declared.command.DrillCommand.{DrillCommand as TheCommand};
 ghost use Rattle.drill_text.specs.declared.kept.Keep.{Keep};
-ghost use Rattle.drill_text.specs.declared.platings.PlatingKind.{PlatingKind as TheKind};
 ghost use Rattle.drill_text.specs.Keeping.{HasRead};
 ghost use Rattle.drill_text.specs.Outcome.{diameters, file_of};
 ghost use Rattle.drill_text.specs.Plating.{says_otherwise};
+ghost use Rattle.drill_text.specs.Profiles.{Kind};
 ghost use Rattle.drill_text.specs.Writing.{vec_bytes};
 
 use crate::kept::KeptCommands;
@@ -43,7 +43,7 @@ impl Model for Drill {
 impl Drill {
     /// The drill file of the commands that have led to a state, with what was kept of them.
     pub(crate) fn new(state: DrillState, kept: KeptCommands) -> Drill
-        ensures { (plating : TheKind) (keep : Keep) (commands : List TheCommand) → HasRead state kept plating keep commands → result ≡ file_of plating keep commands }
+        ensures { (kind : Kind) (keep : Keep) (commands : List TheCommand) → HasRead state kept kind keep commands → result ≡ file_of kind.plating keep commands }
     {
         let (commands, text) = kept.into_parts();
         let (holes, plated, words, tools) = state.into_parts();

@@ -57,8 +57,7 @@ fn line_end_blanks(bytes: &[u8]) -> Option<usize>
     }
 }
 
-/// The coordinates of a point at the start of the bytes, each if it is found, and the bytes after them. Most have points, and are
-/// tried first.
+/// The coordinates of a point at the start of the bytes, each if it is found, and the bytes after them. Most have points, and are tried first.
 fn leading_point<'a>(settings: &Settings, bytes: &'a [u8]) -> (Option<Dec>, Option<Dec>, &'a [u8])
     ensures { (after_x : List ℕ) × MayLead settings.now 88 result.0 after_x bytes.now × MayLead settings.now 89 result.1 result.2.now after_x }
 {

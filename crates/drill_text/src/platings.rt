@@ -1,10 +1,10 @@
 //! What the comments of a drill file say of its tools and holes, and by what it is known which holes are plated.
 
-ghost use Rattle.std.specs.Prelude.{◌≡◌};
-ghost use Rattle.drill_text.specs.Plating.{calls_plated};
+ghost use Rattle.std.specs.Prelude.{◌≡◌, []};
+ghost use Rattle.drill_text.specs.Plating.{calls_plated, same_plating};
 
 use drill_lines::{DrillCommand, Plating, said_plating, says_plated, says_unplated};
-use grid_units::Dec;
+use grid_units::{Dec, Profile};
 
 /// By what it is known which holes of a drill file are plated.
 #[derive(Clone, Copy)]
@@ -26,9 +26,10 @@ pub struct Tool {
     pub(crate) plating: Plating,
 }
 
-/// What the comments so far say, in a file whose platings are known so.
+/// What the comments so far say, in a file that is read in this profile, and whose platings are known so.
 #[derive(Clone, Copy)]
 pub(crate) struct PlatingWords {
+    pub(crate) profile: Profile,
     pub(crate) kind: PlatingKind,
     /// What is said of the tools that are defined next.
     pub(crate) said: Plating,
@@ -39,15 +40,15 @@ pub(crate) struct PlatingWords {
 }
 
 impl PlatingWords {
-    ghost use Rattle.std.specs.Prelude.{[]};
     ghost use Rattle.drill_lines.specs.declared.command.DrillCommand.TheVariants as command;
     ghost use Rattle.drill_text.specs.Inner.StateSteps.{AreWordsAfter, heard};
 
     /// Nothing is said yet, in a file of this kind.
-    pub(crate) fn new(kind: PlatingKind) -> PlatingWords
-        ensures { AreWordsAfter result kind [] }
+    pub(crate) fn new(profile: Profile, kind: PlatingKind) -> PlatingWords
+        ensures { AreWordsAfter result (record { profile = profile; plating = kind }) [] }
     {
         PlatingWords {
+            profile,
             kind,
             said: Plating::Unsaid,
             calls_plated: false,
@@ -65,6 +66,18 @@ impl PlatingWords {
         self.calls_plated |= says_plated(text);
         self.calls_unplated |= says_unplated(text);
     }
+}
+
+/// Whether the same is said of two tools.
+pub(crate) fn same_plating(first: Plating, second: Plating) -> bool
+    ensures { result ≡ same_plating first second }
+{
+    matches!(
+        (first, second),
+        (Plating::Plated, Plating::Plated)
+            | (Plating::Unplated, Plating::Unplated)
+            | (Plating::Unsaid, Plating::Unsaid)
+    )
 }
 
 /// Whether the command is a comment that says that holes are plated.

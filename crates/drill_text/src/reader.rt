@@ -1,16 +1,15 @@
 //! A reader of a drill file that comes in pieces.
 
-ghost use Rattle.std.specs.Prelude.{◌≡◌, ◌≢◌, ◌≤◌, ◌<◌, ◌+◌, true, ℕ, suc, List, All, length, vec_len, take, slice_index, Some, None, Ok, Err, OnOk, IfOk, IfErr, IfSome};
+ghost use Rattle.std.specs.Prelude.{◌≡◌, ◌≢◌, ◌≤◌, ◌<◌, ◌+◌, true, ℕ, suc, List, All, length, vec_len, take, slice_index, Some, None, Ok, Err, OnOk, IfOk, IfErr, IfSome, [], ◌∷◌, ◌++◌};
 ghost use Rattle.drill_lines.specs.declared.command.DrillCommand.{DrillCommand as TheCommand};
 ghost use Rattle.drill_lines.specs.declared.command.DrillCommand.TheVariants as command;
 ghost use Rattle.grid_units.specs.declared.fault.Fault.{Fault};
 ghost use Rattle.grid_units.specs.declared.fault.Fail.TheVariants.{Refused};
 ghost use Rattle.grid_units.specs.Limits.{line_limit, text_limit};
-ghost use Rattle.grid_units.specs.Results.{fault, with_place, Answers};
-ghost use Rattle.drill_text.specs.Profiles.{Kind, Reads, ReadsAsBy, checked_by, place_after_count, spelled_in, with_rest};
+ghost use Rattle.grid_units.specs.Results.{fault, with_place, Answers, IfFault};
+ghost use Rattle.drill_text.specs.Profiles.{Kind, Reads, ReadsAsBy, checked_by, place_after_count, spelled_in, with_rest, ShowsBy};
 ghost use Rattle.drill_text.specs.Plating.{rule_in};
 ghost use Rattle.drill_text.specs.declared.kept.Keep.{Keep as TheKeep};
-ghost use Rattle.drill_text.specs.declared.platings.PlatingKind.{PlatingKind as TheKind};
 ghost use Rattle.drill_text.specs.declared.platings.PlatingKind.TheVariants as plating;
 ghost use Rattle.drill_text.specs.declared.kept.Keep.TheVariants as keep;
 ghost use Rattle.drill_text.specs.Keeping.{HasRead, HasReadIn, ResultsIn, ResultsInLine};
@@ -78,7 +77,7 @@ fn keep(
     state: &mut DrillState,
     kept: &mut KeptCommands,
 ) -> Result<(), Fail>
-    ensures { (plating : TheKind) (keep : TheKeep) (before : List TheCommand) → HasRead state.old kept.old plating keep before → ResultsIn result state.new kept.new plating keep (with_place place byte (checked_by (rule_in plating) before (Some command))) }
+    ensures { (kind : Kind) (keep : TheKeep) (before : List TheCommand) → HasRead state.old kept.old kind keep before → ResultsIn result state.new kept.new kind keep (with_place place byte (checked_by (rule_in kind.profile kind.plating) before (Some command))) }
 {
     match state.step(&command) {
         Ok(()) => {
@@ -98,7 +97,7 @@ fn keep_hit(
     state: &mut DrillState,
     kept: &mut KeptCommands,
 ) -> Result<(), Fail>
-    ensures { (plating : TheKind) (keep : TheKeep) (before : List TheCommand) → HasRead state.old kept.old plating keep before → ResultsIn result state.new kept.new plating keep (with_place place byte (checked_by (rule_in plating) before (Some (command.Hit point)))) }
+    ensures { (kind : Kind) (keep : TheKeep) (before : List TheCommand) → HasRead state.old kept.old kind keep before → ResultsIn result state.new kept.new kind keep (with_place place byte (checked_by (rule_in kind.profile kind.plating) before (Some (command.Hit point)))) }
 {
     match state.step_hit(&point) {
         Ok(()) => {
@@ -131,7 +130,6 @@ fn parse_line(
 }
 
 impl Progress {
-    ghost use Rattle.std.specs.Prelude.{[], ◌∷◌, ◌++◌, List};
     ghost use Rattle.drill_lines.specs.declared.command.Part.TheVariants as part;
     ghost use Rattle.drill_lines.specs.declared.route.Machine.TheVariants as machine;
     ghost use Rattle.drill_lines.specs.declared.route.Route.TheVariants as route;
@@ -144,7 +142,7 @@ impl Progress {
     {
         Progress {
             reader: LineReader::new(alloc, profile),
-            state: DrillState::new(alloc, plating),
+            state: DrillState::new(alloc, profile, plating),
             kept: KeptCommands::new(alloc, keep),
             line: Vec::new(alloc),
             start: 0,
@@ -317,7 +315,7 @@ impl Progress {
 
     /// Reads the rest of the text, which no LF has ended, as a line, if it has a byte.
     fn end(&mut self) -> Result<(), Fail>
-        ensures results_in { (kind : Kind) (keep : TheKeep) (text : List ℕ) (h : Holds self.old kind keep text) → ResultsIn result self.new.state self.new.kept kind.plating keep (with_rest kind h.lines self.old.line.items h.commands) }
+        ensures results_in { (kind : Kind) (keep : TheKeep) (text : List ℕ) (h : Holds self.old kind keep text) → ResultsIn result self.new.state self.new.kept kind keep (with_rest kind h.lines self.old.line.items h.commands) }
         ensures same { OnOk result ((self.new.lines ≡ self.old.lines) × (self.new.line.items ≡ self.old.line.items) × (self.new.offset ≡ self.old.offset)) }
     {
         if self.line.is_empty() {
@@ -354,9 +352,6 @@ pub struct DrillReader {
 }
 
 impl DrillReader {
-    ghost use Rattle.std.specs.Prelude.{List, Some, Ok, Err, [], ◌++◌};
-    ghost use Rattle.grid_units.specs.Results.{IfFault};
-    ghost use Rattle.drill_text.specs.Profiles.{ShowsBy};
     ghost use Rattle.drill_text.specs.Holding.{StandsAfter, StandsBy, StandsIn, failure};
 
     /// A reader that has read nothing, and keeps the commands.

@@ -1,18 +1,18 @@
 //! The state of a drill file: it meets the commands one by one, and answers which rule a command breaks first.
 
-ghost use Rattle.std.specs.Prelude.{◌≡◌, nat_eq};
-ghost use Rattle.std.specs.Option.{option_and_then, option_map};
+ghost use Rattle.std.specs.Prelude.{◌≡◌, nat_eq, ◌&&◌, [], ◌∷◌, ◌++◌, List, OnOk, IfOk, length, Some, None, Ok, is_some, true, false};
+ghost use Rattle.std.specs.Option.{option_and_then, option_map, option_or};
 ghost use Rattle.indexmap.specs.IndexMap.{get};
-ghost use Rattle.drill_text.specs.Rules.{same_unit, same_zeros, same_format, width_with};
-ghost use Rattle.drill_text.specs.Holes.{unit_or};
+ghost use Rattle.drill_text.specs.Rules.{same_unit, same_zeros, same_format, width_with, first_broken, applies, rules, defines_alike, differs, picks_unknown_tool, drills};
+ghost use Rattle.drill_text.specs.Holes.{unit_or, coordinate_in};
 ghost use Rattle.drill_text.specs.Outcome.{diameter_of_tool};
 
-use crate::platings::{PlatingKind, PlatingWords, Tool, calls_plated};
+use crate::platings::{PlatingKind, PlatingWords, Tool, calls_plated, same_plating};
 use drill_lines::{
     Coordinates, DrillCommand, DrillFormat, OptionalDec, Part, Plating, Settings, file_format,
     said_plating,
 };
-use grid_units::{Dec, Hole, ItemFail, Point, Reason, Text, Unit, Zeros};
+use grid_units::{Dec, Hole, ItemFail, Point, Profile, Reason, Text, Unit, Zeros};
 use indexmap::IndexMap;
 use std::alloc::{AllocError, Global};
 
@@ -39,21 +39,17 @@ pub(crate) struct DrillState {
 }
 
 impl DrillState {
-    ghost use Rattle.std.specs.Prelude.{◌≡◌, ◌&&◌, [], ◌∷◌, ◌++◌, List, OnOk, IfOk, length, Some, None, Ok, is_some, true, false};
-    ghost use Rattle.std.specs.Option.{option_or};
     ghost use Rattle.std.specs.List.{find};
     ghost use Rattle.drill_lines.specs.declared.command.DrillCommand.TheVariants as command;
     ghost use Rattle.drill_lines.specs.declared.command.Part.TheVariants as part;
     ghost use Rattle.grid_units.specs.declared.fault.Reason.TheVariants as reason;
     ghost use Rattle.drill_text.specs.Plating.{plating_set};
-    ghost use Rattle.drill_text.specs.Rules.{first_broken, applies, rules, differs, same_unit, same_zeros, same_format, picks_unknown_tool, drills};
-    ghost use Rattle.drill_text.specs.Holes.{coordinate_in};
     ghost use Rattle.grid_units.specs.Numbers.{within_limit};
-    ghost use Rattle.drill_text.specs.Inner.StateSteps.{state_of, AddsOrRefuses, IsStateAfter, Applies, JudgesNext, DrillsOrRefuses, MarksOrRefuses, own_broken, picked_plating, after_format, at_last_point, drill_path, IsWidth, point_in, no_point, hole_between, hole_in};
+    ghost use Rattle.drill_text.specs.Inner.StateSteps.{state_of, AddsOrRefuses, IsStateAfter, Applies, JudgesNext, DrillsOrRefuses, MarksOrRefuses, broken_in, own_in, plates_otherwise, picked_plating, after_format, at_last_point, drill_path, IsWidth, point_in, no_point, hole_between, hole_in};
 
-    /// The state before the first command, in a file whose platings are known so.
-    pub(crate) fn new(alloc: Global, kind: PlatingKind) -> DrillState
-        ensures { IsStateAfter result kind [] }
+    /// The state before the first command, in a file that is read in this profile, and whose platings are known so.
+    pub(crate) fn new(alloc: Global, profile: Profile, kind: PlatingKind) -> DrillState
+        ensures { IsStateAfter result (record { profile = profile; plating = kind }) [] }
     {
         let settings = Settings {
             part: Part::Before,
@@ -70,7 +66,7 @@ impl DrillState {
             width: width_with(None, None, None),
             x: OptionalDec::new(None),
             y: OptionalDec::new(None),
-            words: PlatingWords::new(kind),
+            words: PlatingWords::new(profile, kind),
             holes: Vec::new(alloc),
             plated: Vec::new(alloc),
         }
@@ -137,9 +133,33 @@ impl DrillState {
         Ok(())
     }
 
-    /// The first rule of every file that a command breaks, if the command drills nothing.
-    #[tactic(auto, unfolding(crate::specs::Rules::first_broken))]
+    /// The first rule of every file of its profile that a command breaks, if the command drills nothing.
     fn broken_rule(&self, command: &DrillCommand) -> Option<Reason>
+        requires { drills command.now ≡ false }
+        ensures { result ≡ broken_in self.now command.now }
+    {
+        match self.words.profile {
+            Profile::Wide if self.defines_alike(command) => None,
+            Profile::Strict | Profile::Wide => self.strict_rule(command),
+        }
+    }
+
+    /// Whether a command defines a tool again with the diameter that it has.
+    fn defines_alike(&self, command: &DrillCommand) -> bool
+        ensures { result ≡ defines_alike (state_of self.now) command.now }
+    {
+        match command {
+            DrillCommand::Tool(number, diameter) => match picked(&self.tools, Some(*number)) {
+                Some(tool) => tool.diameter.units() == diameter.units(),
+                None => false,
+            },
+            _ => false,
+        }
+    }
+
+    /// The first rule of the strict profile that a command breaks, if the command drills nothing.
+    #[tactic(auto, unfolding(crate::specs::Rules::first_broken))]
+    fn strict_rule(&self, command: &DrillCommand) -> Option<Reason>
         requires { drills command.now ≡ false }
         ensures { result ≡ first_broken (state_of self.now) (length self.now.holes.items) (drill_path (state_of self.now) command.now) command.now }
     {
@@ -164,9 +184,11 @@ impl DrillState {
     fn differs_in_unit(&self, unit: Unit) -> bool
         ensures { result ≡ differs same_unit (Some unit) self.now.settings.unit }
     {
-        match self.settings.unit {
-            Some(other) => !same_unit(unit, other),
-            None => false,
+        match (unit, self.settings.unit) {
+            (_, None)
+            | (Unit::Inch, Some(Unit::Inch))
+            | (Unit::Millimetre, Some(Unit::Millimetre)) => false,
+            _ => true,
         }
     }
 
@@ -183,7 +205,9 @@ impl DrillState {
         ensures { result ≡ differs same_format format self.now.settings.format }
     {
         match (format, self.settings.format) {
-            (Some(format), Some(other)) => !same_format(format, other),
+            (Some(format), Some(other)) => {
+                !(format.whole() == other.whole() && format.decimals() == other.decimals())
+            }
             _ => false,
         }
     }
@@ -238,12 +262,26 @@ impl DrillState {
     /// The rule that files of this kind have beside the others, if a command breaks it that drills nothing.
     fn own_rule(&self, command: &DrillCommand) -> Option<Reason>
         requires { drills command.now ≡ false }
-        ensures { result ≡ own_broken self.now.words.kind self.now.header_ended (picked_plating self.now) command.now }
+        ensures { result ≡ own_in self.now command.now }
     {
         match self.words.kind {
             PlatingKind::Stated => None,
             PlatingKind::Unplated => calls_plated(command).then_some(Reason::PlatingConflict),
+            PlatingKind::Mixed if self.plates_otherwise(command) => Some(Reason::Redefined),
             PlatingKind::Mixed => self.speaks_late(command).then_some(Reason::NoPlating),
+        }
+    }
+
+    /// Whether a command defines a tool again, and what is said of it now is not what it was.
+    fn plates_otherwise(&self, command: &DrillCommand) -> bool
+        ensures { result ≡ plates_otherwise self.now command.now }
+    {
+        match command {
+            DrillCommand::Tool(number, _) => match picked(&self.tools, Some(*number)) {
+                Some(tool) => !same_plating(self.words.said, tool.plating),
+                None => false,
+            },
+            _ => false,
         }
     }
 
@@ -493,15 +531,6 @@ fn width_with(unit: Option<Unit>, tool: Option<u16>, picked: Option<Tool>) -> Re
     }
 }
 
-fn same_unit(first: Unit, second: Unit) -> bool
-    ensures { result ≡ same_unit first second }
-{
-    matches!(
-        (first, second),
-        (Unit::Inch, Unit::Inch) | (Unit::Millimetre, Unit::Millimetre)
-    )
-}
-
 fn same_zeros(first: Zeros, second: Zeros) -> bool
     ensures { result ≡ same_zeros first second }
 {
@@ -511,10 +540,4 @@ fn same_zeros(first: Zeros, second: Zeros) -> bool
             | (Zeros::Trailing, Zeros::Trailing)
             | (Zeros::Full, Zeros::Full)
     )
-}
-
-fn same_format(first: DrillFormat, second: DrillFormat) -> bool
-    ensures { result ≡ same_format first second }
-{
-    first.whole() == second.whole() && first.decimals() == second.decimals()
 }

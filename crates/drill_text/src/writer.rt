@@ -30,8 +30,7 @@ fn is_after_end(part: Part) -> bool
     matches!(part, Part::After)
 }
 
-/// Whether a list is comments, `Start`, commands of the header, `HeaderEnd`, commands of the body and
-/// `Finish`, each one that some line spells.
+/// Whether a list is comments, `Start`, commands of the header, `HeaderEnd`, commands of the body and `Finish`, each one that some line spells.
 pub fn drill_sayable(commands: &[DrillCommand]) -> bool
     ensures { result ≡ drill_sayable commands.now }
 {

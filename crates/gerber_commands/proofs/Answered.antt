@@ -1,40 +1,19 @@
 -- What is written by the grammar of extended items, the rows answer.
-use Rattle.std.proofs.Common.{◌≡◌, ◌≢◌, inl, inr, ℕ, ◌+◌, ◌-◌, ◌<◌, ◌≤◌, Bool, true, false, cond, not, ◌||◌, ◌&&◌, eqb, leb, ltb, List, [], ◌∷◌, ◌++◌, length, take, drop, map, ℤ, pos, Option, Some, None, is_some, Result, Ok, Err, refl, sym, ap, ◌∙◌, arith, append_assoc}
-use Rattle.std.specs.Prelude.{codes, decimal, All, take_while}
-use Rattle.std.specs.Option.{option_map, option_or}
-use Rattle.std.specs.List.{list_any, list_all, prefix_len, AllByRecursion, join_with_byte}
-use Rattle.std.specs.Str.{bytes_eq}
-use Rattle.std.proofs.lemmas.List.{length-append, take_at, drop_at, append-nil}
-use Rattle.std.proofs.lemmas.List.Elements.{All-from_recursion, All-contains, recursion_from_All}
-use Rattle.std.proofs.lemmas.Bool.{le-leb, lt-ltb, le-ltb}
-use Rattle.std.proofs.lemmas.Bool.Decides.{nat_tests, Decides-int_eq}
-use Rattle.std.proofs.lemmas.Fmt.{decimal_digit}
-use Rattle.grid_units.specs.declared.fault.Reason.{Reason}
-use Rattle.grid_units.specs.declared.fault.Reason.TheVariants.{SeveralInOne, NegativeImage, BadWord, BadNumber}
-use Rattle.grid_units.specs.Results.{◌>>=◌, both}
-use Rattle.grid_units.specs.Numbers.{is_digit, is_number_char, parse_decimal}
-use Rattle.grid_units.specs.Rows.{strip_prefix}
-use Rattle.gerber_commands.specs.declared.command.Command.{Command}
-use Rattle.gerber_commands.specs.declared.command.Command.TheVariants.{FormatIs, Define, Macro, Turn, Scale, Repeat, Attribute, Remove}
-use Rattle.gerber_commands.specs.declared.command.Format.{Format}
-use Rattle.gerber_commands.specs.declared.command.StepRepeat.{StepRepeat}
+use Rattle.gerber_commands.proofs.Common.{◌≡◌, ◌≢◌, inl, inr, ℕ, ◌+◌, ◌-◌, ◌<◌, ◌≤◌, Bool, true, false, cond, not, ◌||◌, ◌&&◌, eqb, leb, ltb, List, [], ◌∷◌, ◌++◌, length, take, drop, map, Option, Some, None, is_some, Result, Ok, Err, refl, sym, ap, ◌∙◌, arith, append_assoc, codes, decimal, take_while, option_map, option_or, list_any, list_all, prefix_len, AllByRecursion, join_with_byte, bytes_eq, length-append, take_at, drop_at, All-from_recursion, All-contains, recursion_from_All, le-leb, lt-ltb, le-ltb, nat_tests, Decides-int_eq, decimal_digit, Reason, SeveralInOne, NegativeImage, BadWord, BadNumber, ◌>>=◌, both, is_digit, is_number_char, strip_prefix, split_by, Command, FormatIs, Define, Macro, Turn, Scale, Repeat, Attribute, Remove, Format, StepRepeat, Standard, Circle, Rectangle, Obround, Polygon, Meaning, Row, first_match, is_negative_image, last_byte, before_last, format, is_name_start, is_name_byte, standard_template, min_sizes, max_sizes, all_values, are_sizes, define_template, before_comma, after_comma, define_row, macro_of, macro_row, run_after, repeat_fields, has_value, is_omitted_or, pieces_from_attributes, pieces_from_polarity, pieces, HasNo, fixed_pieces, standards, IsMacroName, IsTemplate, SpellsOne, IsOmittedOr, neutral_values, HasNoEffect, WrittenIsAnswered, PiecesSpellOneList, and_true, both_true, and_false, list_all_weaker, prefix_len_append, take_while_append, drop_run_append, take_while_all, drop_run_all}
+use Rattle.std.proofs.Common.{ℤ, pos}
+use Rattle.std.specs.Prelude.{All}
+use Rattle.std.proofs.lemmas.List.{append-nil}
+use Rattle.grid_units.specs.Numbers.{parse_decimal}
 use Rattle.gerber_commands.specs.declared.command.AttributeKind.TheVariants as kinds
-use Rattle.gerber_commands.specs.declared.command.Standard.{Standard}
-use Rattle.gerber_commands.specs.declared.command.Standard.TheVariants.{Circle, Rectangle, Obround, Polygon}
 use Rattle.gerber_commands.specs.declared.command.Template.{Template}
 use Rattle.gerber_commands.specs.declared.command.Template.TheVariants as templates
 use Rattle.gerber_commands.specs.Numbers.{nat_of}
-use Rattle.gerber_commands.specs.Rows.{Meaning, Row, first_match, field}
-use Rattle.gerber_commands.specs.Negative.{is_negative_image}
-use Rattle.gerber_commands.specs.Pieces.{split_by, last_byte, before_last, refused_format_row, format, format_row, unit_piece_row, is_name_start, is_name_byte, is_name, standard_template, min_sizes, max_sizes, all_values, are_sizes, sizes_of, aperture_number, define_standard, define_named, define_template, before_comma, after_comma, define, definition, define_row, macro_of, macro_definition, macro_row, polarity_row, mirror_row, run_after, turn, scale, transform_row, block_fields, repeat, repeat_fields, repeat_start, repeat_row, file_attribute, attribute, removal, has_value, is_omitted_or, axes_equal, no_effect_piece_row, neutral_axes_row, negative_row, deprecated_piece_row, block_aperture_row, pieces_from_attributes, pieces_from_polarity, pieces, piece}
-use Rattle.gerber_commands.specs.PieceGrammar.{HasNo, fixed_pieces, standards, IsMacroName, IsTemplate, IsMacro, SpellsOne, IsOmittedOr, neutral_values, HasNoEffect, IsPiece}
+use Rattle.gerber_commands.specs.Rows.{field}
+use Rattle.gerber_commands.specs.Pieces.{refused_format_row, format_row, unit_piece_row, is_name, sizes_of, aperture_number, define_standard, define_named, define, definition, macro_definition, polarity_row, mirror_row, turn, scale, transform_row, block_fields, repeat, repeat_start, repeat_row, file_attribute, attribute, removal, axes_equal, no_effect_piece_row, neutral_axes_row, negative_row, deprecated_piece_row, block_aperture_row, piece}
 use Rattle.gerber_commands.specs.PieceGrammar as grammar
-use Rattle.gerber_commands.specs.PieceLaws.{WrittenIsAnswered, PiecesSpellOneList}
 use Rattle.gerber_commands.proofs.RowLemmas.{bytes_are, block_fields_are, IsPlain}
 use Rattle.gerber_commands.proofs.NumberRuns.{nat_digits, decimal_numbers, parts_divided, none_passes, no_x}
 use Rattle.gerber_commands.proofs.WrittenPieces.{macro_first}
-use Rattle.grid_units.proofs.BoolLemmas.{and_true, both_true, and_false}
-use Rattle.grid_units.proofs.ListLemmas.{list_all_weaker, prefix_len_append, take_while_append, drop_run_append, take_while_all, drop_run_all}
 
 -- ---- pieces that are always written alike
 

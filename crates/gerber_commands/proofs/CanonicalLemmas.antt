@@ -1,10 +1,8 @@
 -- Lists that are written one element after the other.
-use Rattle.std.proofs.Common.{◌≡◌, ℕ, ◌+◌, ◌<◌, ◌≤◌, List, [], ◌∷◌, ◌++◌, length, take, drop, get_or, ◌-◌, arith, ℤ, sym, ap, ◌∙◌, append_assoc}
-use Rattle.std.specs.List.{flat_map}
-use Rattle.std.proofs.lemmas.List.{take_more, take_all, append-nil}
+use Rattle.gerber_commands.proofs.Common.{◌≡◌, ℕ, ◌+◌, ◌<◌, ◌≤◌, List, [], ◌∷◌, ◌++◌, length, take, drop, get_or, ◌-◌, arith, sym, ap, ◌∙◌, append_assoc, flat_map, take_more, take_all, canonical, sizes_text}
+use Rattle.std.proofs.Common.{ℤ}
+use Rattle.std.proofs.lemmas.List.{append-nil}
 use Rattle.std.proofs.lemmas.List.Concat.{flat_map-append}
-use Rattle.grid_units.specs.Spellings.{canonical}
-use Rattle.gerber_commands.specs.Canonical.{sizes_text}
 
 -- one more element is written after the others
 pub written_step : {A : Type 0} (f : A → List ℕ) (xs : List A) (i : ℕ) (x : A) (old now next added : List ℕ) → i < length xs → x ≡ get_or xs i x → now ≡ old ++ flat_map f (take i xs) → next ≡ now ++ added → added ≡ f x → next ≡ old ++ flat_map f (take (i + 1) xs)

@@ -1,20 +1,12 @@
 -- The fields of an operation are read back from what is written of them.
-use Rattle.std.proofs.Common.{◌≡◌, ℕ, ◌+◌, Bool, true, false, cond, not, ◌||◌, ◌&&◌, eqb, leb, ltb, List, [], ◌∷◌, ◌++◌, length, drop, ℤ, Option, Some, None, Result, Ok, Err, refl, sym, ap, ◌∙◌}
-use Rattle.std.specs.Prelude.{codes, take_while, unwrap_or}
-use Rattle.std.specs.List.{list_any, list_all, prefix_len}
-use Rattle.std.proofs.lemmas.Bool.{eqb-true, false≢true}
+use Rattle.gerber_commands.proofs.Common.{◌≡◌, ℕ, ◌+◌, Bool, true, false, cond, not, ◌||◌, ◌&&◌, eqb, leb, ltb, List, [], ◌∷◌, ◌++◌, length, drop, Option, Some, None, Result, Ok, Err, refl, sym, ap, ◌∙◌, codes, take_while, list_any, list_all, prefix_len, eqb-true, false≢true, Reason, BadNumber, TooManyDigits, is_digit, is_digits, is_number_char, value, without_sign, signed_value, ◌>>=◌, significant_digits, Fields, NamesInt, and_true, both_true, not_true, take_while_append, drop_run_append, take_while_all, drop_run_all, digits_numbers}
+use Rattle.std.proofs.Common.{ℤ}
+use Rattle.std.specs.Prelude.{unwrap_or}
 use Rattle.std.proofs.lemmas.List.Folds.{list_any-append}
-use Rattle.grid_units.specs.declared.fault.Reason.{Reason}
-use Rattle.grid_units.specs.declared.fault.Reason.TheVariants.{BadNumber, TooManyDigits}
-use Rattle.grid_units.specs.Numbers.{is_digit, is_digits, is_number_char, value, without_sign, signed_value}
-use Rattle.grid_units.specs.Results.{◌>>=◌}
-use Rattle.gerber_commands.specs.Numbers.{int_of, nat_of, significant_digits}
+use Rattle.gerber_commands.specs.Numbers.{int_of, nat_of}
 use Rattle.gerber_commands.specs.Rows.{field as split_field}
-use Rattle.gerber_commands.specs.Words.{Fields, fields, coordinate}
-use Rattle.gerber_commands.specs.WordGrammar.{field, NamesInt}
-use Rattle.grid_units.proofs.BoolLemmas.{and_true, both_true, not_true}
-use Rattle.grid_units.proofs.ListLemmas.{take_while_append, drop_run_append, take_while_all, drop_run_all}
-use Rattle.grid_units.proofs.ReadPrefix.{digits_numbers}
+use Rattle.gerber_commands.specs.Words.{fields, coordinate}
+use Rattle.gerber_commands.specs.WordGrammar.{field}
 use Rattle.gerber_commands.proofs.NumberRuns.{sign_number}
 
 -- ---- the bytes of numbers

@@ -1,3 +1,4 @@
+pub mod Common
 pub mod CanonicalLemmas
 pub mod NumberLemmas
 pub mod Answered

@@ -1,13 +1,7 @@
 -- Digits and their values.
-use Rattle.std.proofs.Common.{◌≡◌, ℕ, suc, ◌+◌, ◌-◌, ◌*◌, ◌^◌, ◌<◌, ◌≤◌, Bool, true, false, cond, eqb, not, ◌&&◌, List, [], ◌∷◌, length, take, drop, get_or, Ok, refl, sym, ap, subst, ◌∙◌, arith}
-use Rattle.std.specs.Prelude.{pos, neg_ℤ}
-use Rattle.std.specs.List.{list_all, prefix_len, AllByRecursion}
-use Rattle.std.proofs.Math.Nat.{pow-suc}
-use Rattle.std.proofs.lemmas.List.{length-drop, take_all, take_rest, take_more}
-use Rattle.std.proofs.lemmas.List.Sums.{fold-append}
-use Rattle.std.proofs.lemmas.Bool.{eqb-true, le-ltb}
-use Rattle.grid_units.specs.Numbers.{is_digit, value, without_sign, is_digits, is_negative}
-use Rattle.gerber_commands.specs.Numbers.{significant_digits, int_of}
+use Rattle.gerber_commands.proofs.Common.{◌≡◌, ℕ, suc, ◌+◌, ◌-◌, ◌*◌, ◌^◌, ◌<◌, ◌≤◌, Bool, true, false, cond, eqb, not, ◌&&◌, List, [], ◌∷◌, length, take, drop, get_or, Ok, refl, sym, ap, subst, ◌∙◌, arith, neg_ℤ, list_all, prefix_len, AllByRecursion, pow-suc, length-drop, take_all, take_rest, take_more, fold-append, eqb-true, le-ltb, is_digit, value, without_sign, is_digits, is_negative, significant_digits}
+use Rattle.std.specs.Prelude.{pos}
+use Rattle.gerber_commands.specs.Numbers.{int_of}
 
 leading_zero : (t : Bool) (b : ℕ) (bs : List ℕ) → eqb b 48 ≡ t → value (drop (prefix_len (λ c. eqb c 48) bs) bs) ≡ value bs → value (drop (cond t (1 + prefix_len (λ c. eqb c 48) bs) 0) (b ∷ bs)) ≡ value (b ∷ bs)
 leading_zero true b bs e h =

@@ -1,19 +1,9 @@
 -- The bytes of numbers that are read, and the parts of texts that are joined.
-use Rattle.std.proofs.Common.{◌≡◌, ℕ, ◌+◌, ◌<◌, Bool, true, false, cond, not, ◌||◌, ◌&&◌, eqb, leb, ltb, List, [], ◌∷◌, ◌++◌, length, take, get_or, ℤ, Ok, Err, refl, sym, ap, ◌∙◌, arith}
-use Rattle.std.specs.List.{list_all, list_any, AllByRecursion, slice_split, onto_first, join_with_byte, position_or_len, before_first, after_first}
-use Rattle.std.proofs.lemmas.List.{take_all}
-use Rattle.std.proofs.lemmas.List.Sums.{prefix_len_stops, split_at_first}
-use Rattle.std.proofs.lemmas.Bool.{eqb-true, ltb-true, ltb-false}
-use Rattle.std.proofs.lemmas.Bool.Decides.{nat_tests}
-use Rattle.grid_units.specs.declared.fault.Reason.TheVariants.{BadNumber, TooFine, TooFar}
-use Rattle.grid_units.specs.Numbers.{is_digit, is_digits, is_number_char, value, without_sign, signed_value, to_units, whole, fraction, is_decimal, fits_eight_decimals, value_without_point, parse_decimal}
+use Rattle.gerber_commands.proofs.Common.{◌≡◌, ℕ, ◌+◌, ◌<◌, Bool, true, false, cond, not, ◌||◌, ◌&&◌, eqb, leb, ltb, List, [], ◌∷◌, ◌++◌, length, take, get_or, Ok, Err, refl, sym, ap, ◌∙◌, arith, list_all, list_any, AllByRecursion, slice_split, onto_first, join_with_byte, position_or_len, before_first, after_first, take_all, prefix_len_stops, split_at_first, eqb-true, ltb-true, ltb-false, nat_tests, BadNumber, TooFine, TooFar, is_digit, is_digits, is_number_char, value, without_sign, signed_value, to_units, whole, fraction, is_decimal, fits_eight_decimals, value_without_point, HasNo, and_true, both_true, not_false, or_is_false, list_all_append, digits_numbers, split_by}
+use Rattle.std.proofs.Common.{ℤ}
+use Rattle.grid_units.specs.Numbers.{parse_decimal}
 use Rattle.gerber_commands.specs.Numbers.{nat_of}
-use Rattle.gerber_commands.specs.Pieces.{split_by}
-use Rattle.gerber_commands.specs.PieceGrammar.{HasNo}
 use Rattle.gerber_commands.proofs.RowLemmas.{guarded, allowed}
-use Rattle.grid_units.proofs.BoolLemmas.{and_true, both_true, not_false, or_is_false}
-use Rattle.grid_units.proofs.ListLemmas.{list_all_append}
-use Rattle.grid_units.proofs.ReadPrefix.{digits_numbers}
 
 -- ---- numbers that are read
 

@@ -1,11 +1,8 @@
 -- Parameters that are read one after the other.
-use Rattle.std.proofs.Common.{◌≡◌, ℕ, suc, ◌+◌, ◌≤◌, Bool, true, false, cond, leb, List, [], ◌∷◌, ◌++◌, length, ℤ, Result, Ok, Err, refl, sym, ap, ◌∙◌, arith, append_assoc}
-use Rattle.std.specs.Prelude.{IfOk}
-use Rattle.std.proofs.lemmas.Bool.{leb-true, leb-false, le-leb}
-use Rattle.std.proofs.lemmas.List.{append-nil, length-append}
-use Rattle.grid_units.specs.declared.fault.Reason.{Reason}
+use Rattle.gerber_commands.proofs.Common.{◌≡◌, ℕ, suc, ◌+◌, ◌≤◌, Bool, true, false, cond, leb, List, [], ◌∷◌, ◌++◌, length, Result, Ok, Err, refl, sym, ap, ◌∙◌, arith, append_assoc, IfOk, leb-true, leb-false, le-leb, length-append, Reason, ◌>>=◌, both, earlier_reason}
+use Rattle.std.proofs.Common.{ℤ}
+use Rattle.std.proofs.lemmas.List.{append-nil}
 use Rattle.grid_units.specs.Reasons.{reason_number}
-use Rattle.grid_units.specs.Results.{◌>>=◌, both, earlier_reason}
 use Rattle.gerber_commands.specs.Inner.Parameters.{with_size}
 
 -- the parameters read before, and those read after them

@@ -1,17 +1,10 @@
 -- Pieces that are written for these commands.
-use Rattle.std.proofs.Common.{◌≡◌, inl, inr, true, [], ◌∷◌, ◌++◌, pos, refl, sym, arith}
-use Rattle.std.specs.Prelude.{codes, decimal}
-use Rattle.std.proofs.lemmas.Fmt.{decimal_digit}
+use Rattle.gerber_commands.proofs.Common.{◌≡◌, inl, inr, true, [], ◌∷◌, ◌++◌, refl, sym, arith, codes, decimal, decimal_digit, Millimetre, UnitIs, FormatIs, Define, Dark, Clear, Mirror, RepeatEnd, Attribute, Circle, Rectangle, Wide, IsPiece, IsPieceIn}
+use Rattle.std.proofs.Common.{pos}
 use Rattle.grid_units.specs.Numbers.{parse_decimal}
-use Rattle.grid_units.specs.declared.lengths.Unit.TheVariants.{Millimetre}
-use Rattle.gerber_commands.specs.declared.command.Command.TheVariants.{UnitIs, FormatIs, Define, Dark, Clear, Mirror, RepeatEnd, Attribute}
 use Rattle.gerber_commands.specs.declared.command.AttributeKind.TheVariants as kinds
-use Rattle.gerber_commands.specs.declared.command.Standard.TheVariants.{Circle, Rectangle}
 use Rattle.gerber_commands.specs.declared.command.Template.TheVariants as templates
 use Rattle.gerber_commands.specs.Numbers.{nat_of}
-use Rattle.grid_units.specs.declared.profile.Profile.TheVariants.{Wide}
-use Rattle.gerber_commands.specs.PieceGrammar.{IsPiece}
-use Rattle.gerber_commands.specs.Profiles.{IsPieceIn}
 
 -- four whole digits and six decimals
 pub format : IsPiece (codes "FSLAX46Y46") (FormatIs (record { whole = 4; decimals = 6 }) ∷ [])

@@ -1,23 +1,9 @@
 -- Extended items in the wide profile.
-use Rattle.std.proofs.Common.{◌≡◌, ◌⊎◌, inl, inr, ℕ, Bool, true, false, cond, not, ◌&&◌, ◌||◌, eqb, List, [], ◌∷◌, ◌++◌, map, Option, Some, None, is_some, unwrap_or, Result, Ok, Err, refl, sym, ap, ◌∙◌}
-use Rattle.std.specs.Prelude.{codes}
-use Rattle.std.specs.List.{AllByRecursion, join_with_byte, list_any}
-use Rattle.std.specs.Str.{bytes_eq}
+use Rattle.gerber_commands.proofs.Common.{◌≡◌, inl, inr, ℕ, Bool, true, false, cond, not, ◌&&◌, ◌||◌, eqb, List, [], ◌∷◌, ◌++◌, map, Option, Some, None, is_some, Ok, Err, refl, sym, ap, ◌∙◌, codes, AllByRecursion, join_with_byte, list_any, bytes_eq, join_with_byte-slice_split, Reason, BadWord, ClearPolarity, SeveralInOne, ◌>>=◌, strip_prefix, split_by, bind_ok, Command, Clear, Strict, Wide, Meaning, first_match, HasNo, IsPiece, pieces, has_several_pieces, before_last, last_byte, spelled_in_turn, IsPieceIn, IsWidePiece, SpellInTurn, ItemsAreWrittenIn, ItemsAreAnsweredIn, WideReadsMore}
+use Rattle.std.proofs.Common.{unwrap_or}
 use Rattle.std.proofs.lemmas.List.{append-nil}
-use Rattle.std.proofs.lemmas.List.Splits.{join_with_byte-slice_split}
-use Rattle.grid_units.specs.declared.fault.Reason.{Reason}
-use Rattle.grid_units.specs.declared.fault.Reason.TheVariants.{BadWord, ClearPolarity, SeveralInOne}
-use Rattle.grid_units.specs.Results.{◌>>=◌}
-use Rattle.grid_units.specs.Rows.{strip_prefix}
-use Rattle.grid_units.proofs.ResultLemmas.{bind_ok}
-use Rattle.gerber_commands.specs.declared.command.Command.{Command}
-use Rattle.gerber_commands.specs.declared.command.Command.TheVariants.{Clear}
-use Rattle.grid_units.specs.declared.profile.Profile.{Profile}
-use Rattle.grid_units.specs.declared.profile.Profile.TheVariants.{Strict, Wide}
-use Rattle.gerber_commands.specs.Rows.{Meaning, first_match}
-use Rattle.gerber_commands.specs.PieceGrammar.{HasNo, IsPiece}
-use Rattle.gerber_commands.specs.Pieces.{refused_format_row, format_row, unit_piece_row, polarity_row, mirror_row, transform_row, repeat_row, repeat_start, no_effect_piece_row, neutral_axes_row, negative_row, deprecated_piece_row, block_aperture_row, piece, pieces, extended_meaning, has_several_pieces, before_last, last_byte, split_by}
-use Rattle.gerber_commands.specs.Profiles.{extended_in, piece_among, spelled_in_turn, wide_piece, wide_pieces, IsPieceIn, IsWidePiece, SpellInTurn, ItemsAreWrittenIn, ItemsAreAnsweredIn, WideReadsMore}
+use Rattle.gerber_commands.specs.Pieces.{refused_format_row, format_row, unit_piece_row, polarity_row, mirror_row, transform_row, repeat_row, repeat_start, no_effect_piece_row, neutral_axes_row, negative_row, deprecated_piece_row, block_aperture_row, piece, extended_meaning}
+use Rattle.gerber_commands.specs.Profiles.{piece_among, wide_piece, wide_pieces}
 use Rattle.gerber_commands.proofs.NumberRuns.{parts_divided}
 use Rattle.gerber_commands.proofs.RowLemmas.{allowed, bytes_are, refused}
 use Rattle.gerber_commands.proofs.WrittenPieces.{answers_are_written, parts_without, with_end_written}

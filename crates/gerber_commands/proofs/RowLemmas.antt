@@ -1,18 +1,6 @@
 -- What a row answers is written: answers, rows, and what stands before and after a prefix.
-use Rattle.std.proofs.Common.{◌≡◌, ◌⊎◌, inl, inr, ℕ, Bool, true, false, cond, eqb, List, [], ◌∷◌, ◌++◌, length, take, drop, Option, Some, None, is_some, Result, Ok, Err, refl, sym, subst, ◌∙◌, append_assoc}
-use Rattle.std.specs.Prelude.{codes}
-use Rattle.std.specs.Option.{option_map, option_or}
-use Rattle.std.specs.List.{Contains, AllByRecursion}
-use Rattle.std.specs.Str.{bytes_eq}
-use Rattle.std.proofs.lemmas.List.{take-append-drop}
-use Rattle.std.proofs.lemmas.Bool.{eqb-true}
-use Rattle.grid_units.specs.declared.fault.Reason.{Reason}
-use Rattle.grid_units.specs.Results.{◌>>=◌}
-use Rattle.grid_units.specs.Rows.{strip_prefix}
-use Rattle.gerber_commands.specs.declared.command.Command.{Command}
-use Rattle.gerber_commands.specs.Rows.{Meaning, Row, first_match}
-use Rattle.gerber_commands.specs.PieceGrammar.{fixed_pieces, SpellsOne, HasNoEffect}
-use Rattle.grid_units.proofs.BoolLemmas.{both_true}
+use Rattle.gerber_commands.proofs.Common.{◌≡◌, ◌⊎◌, inl, inr, ℕ, Bool, true, false, cond, eqb, List, [], ◌∷◌, ◌++◌, length, take, drop, Option, Some, None, is_some, Result, Ok, Err, refl, sym, subst, ◌∙◌, append_assoc, codes, option_map, option_or, AllByRecursion, bytes_eq, take-append-drop, eqb-true, Reason, ◌>>=◌, strip_prefix, Command, Meaning, Row, first_match, fixed_pieces, SpellsOne, HasNoEffect, both_true}
+use Rattle.std.specs.List.{Contains}
 
 -- ---- what a test let through
 

@@ -1,40 +1,18 @@
 -- What the rows of extended items answer is so written.
-use Rattle.std.proofs.Common.{◌≡◌, ◌≢◌, inl, inr, ℕ, ◌+◌, ◌-◌, ◌<◌, ◌≤◌, Bool, true, false, cond, not, ◌||◌, ◌&&◌, eqb, leb, ltb, List, [], ◌∷◌, ◌++◌, length, take, drop, get_or, map, ℤ, pos, Option, Some, None, is_some, Result, Ok, Err, refl, sym, ap, subst, ◌∙◌, arith, append_assoc}
-use Rattle.std.specs.Prelude.{codes, unwrap_or, decimal, take_while, All}
-use Rattle.std.specs.Option.{option_map}
-use Rattle.std.specs.List.{list_any, list_all, prefix_len, Contains, AllByRecursion, join_with_byte}
-use Rattle.std.specs.Str.{bytes_eq}
-use Rattle.std.proofs.lemmas.List.{take-append-drop, append-nil, take_all, drop_more}
-use Rattle.std.proofs.lemmas.List.Sums.{prefix_len_stops}
-use Rattle.std.proofs.lemmas.List.Splits.{join_with_byte-slice_split}
-use Rattle.std.proofs.lemmas.List.Elements.{All-from_recursion}
-use Rattle.std.proofs.lemmas.Bool.{eqb-true, leb-true, ltb-true, ltb-false}
-use Rattle.std.proofs.lemmas.Bool.Decides.{Decides-int_eq}
-use Rattle.std.proofs.lemmas.Fmt.{decimal_digit}
-use Rattle.grid_units.specs.declared.fault.Reason.{Reason}
-use Rattle.grid_units.specs.declared.fault.Reason.TheVariants.{SeveralInOne, BlockAperture, NegativeImage, TrailingZeros, Incremental, OldParameter, BadWord, BadNumber}
-use Rattle.grid_units.specs.Results.{both}
-use Rattle.grid_units.specs.Numbers.{is_digit, is_number_char, parse_decimal}
-use Rattle.grid_units.specs.Rows.{strip_prefix}
-use Rattle.gerber_commands.specs.declared.command.Command.{Command}
-use Rattle.gerber_commands.specs.declared.command.Command.TheVariants.{FormatIs, Define, Macro, Turn, Scale, Repeat, RepeatEnd, Attribute, Remove}
-use Rattle.gerber_commands.specs.declared.command.Format.{Format}
-use Rattle.gerber_commands.specs.declared.command.StepRepeat.{StepRepeat}
+use Rattle.gerber_commands.proofs.Common.{◌≡◌, ◌≢◌, inl, inr, ℕ, ◌+◌, ◌-◌, ◌<◌, ◌≤◌, Bool, true, false, cond, not, ◌||◌, ◌&&◌, eqb, leb, ltb, List, [], ◌∷◌, ◌++◌, length, take, drop, get_or, map, Option, Some, None, is_some, Result, Ok, Err, refl, sym, ap, subst, ◌∙◌, arith, append_assoc, codes, decimal, take_while, option_map, list_any, list_all, prefix_len, AllByRecursion, join_with_byte, bytes_eq, take-append-drop, take_all, drop_more, prefix_len_stops, join_with_byte-slice_split, All-from_recursion, eqb-true, leb-true, ltb-true, ltb-false, Decides-int_eq, decimal_digit, Reason, SeveralInOne, BlockAperture, NegativeImage, TrailingZeros, Incremental, OldParameter, BadWord, BadNumber, both, is_digit, is_number_char, strip_prefix, split_by, Command, FormatIs, Define, Macro, Turn, Scale, Repeat, RepeatEnd, Attribute, Remove, Format, StepRepeat, Standard, Circle, Rectangle, Obround, Polygon, Meaning, first_match, is_negative_image, last_byte, before_last, format, format_fields, standard_template, min_sizes, max_sizes, all_values, are_sizes, define_template, before_comma, after_comma, define_row, macro_of, run_after, repeat_fields, has_value, is_omitted_or, is_zero_rotation, has_no_effect, pieces, HasNo, standards, IsTemplate, IsMacro, IsOmittedOr, neutral_values, IsPiece, AnswersAreWritten, both_true, not_true, not_false, bind_ok, both_ok}
+use Rattle.std.proofs.Common.{ℤ, pos}
+use Rattle.std.specs.Prelude.{unwrap_or, All}
+use Rattle.std.specs.List.{Contains}
+use Rattle.std.proofs.lemmas.List.{append-nil}
+use Rattle.grid_units.specs.Numbers.{parse_decimal}
 use Rattle.gerber_commands.specs.declared.command.AttributeKind.TheVariants as kinds
-use Rattle.gerber_commands.specs.declared.command.Standard.{Standard}
-use Rattle.gerber_commands.specs.declared.command.Standard.TheVariants.{Circle, Rectangle, Obround, Polygon}
 use Rattle.gerber_commands.specs.declared.command.Template.TheVariants as templates
 use Rattle.gerber_commands.specs.Numbers.{nat_of}
-use Rattle.gerber_commands.specs.Rows.{Meaning, first_match, field}
-use Rattle.gerber_commands.specs.Negative.{is_negative_image}
-use Rattle.gerber_commands.specs.Pieces.{split_by, last_byte, before_last, refused_format_row, format, format_fields, format_row, unit_piece_row, is_name, standard_template, min_sizes, max_sizes, all_values, are_sizes, sizes_of, aperture_number, define_standard, define_named, define_template, before_comma, after_comma, define, definition, define_row, macro_of, macro_definition, polarity_row, mirror_row, run_after, turn, scale, transform_row, block_fields, repeat, repeat_fields, repeat_start, repeat_row, file_attribute, attribute, removal, has_value, is_omitted_or, is_zero_rotation, axes_equal, has_no_effect, no_effect_piece_row, neutral_axes_row, negative_row, deprecated_piece_row, block_aperture_row, pieces, piece}
-use Rattle.gerber_commands.specs.PieceGrammar.{HasNo, fixed_pieces, standards, IsMacroName, IsTemplate, IsMacro, SpellsOne, IsOmittedOr, neutral_values, HasNoEffect, IsPiece}
+use Rattle.gerber_commands.specs.Rows.{field}
+use Rattle.gerber_commands.specs.Pieces.{refused_format_row, format_row, unit_piece_row, is_name, sizes_of, aperture_number, define_standard, define_named, define, definition, macro_definition, polarity_row, mirror_row, turn, scale, transform_row, block_fields, repeat, repeat_start, repeat_row, file_attribute, attribute, removal, axes_equal, no_effect_piece_row, neutral_axes_row, negative_row, deprecated_piece_row, block_aperture_row, piece}
 use Rattle.gerber_commands.specs.PieceGrammar as grammar
-use Rattle.gerber_commands.specs.PieceLaws.{AnswersAreWritten}
 use Rattle.gerber_commands.proofs.RowLemmas.{guarded, refused, allowed, bytes_are, block_fields_are, begins, some_of, MeaningIsWritten, RowIsWritten, answer_written, refusal_written, one_written, idle_written, fixed_written, cond_written, bind_written, first_written, no_row, row_is, row_refuses, row_cond, row_map, row_or, row_literal}
 use Rattle.gerber_commands.proofs.SplitLemmas.{parts_all}
-use Rattle.grid_units.proofs.BoolLemmas.{both_true, not_true, not_false}
-use Rattle.grid_units.proofs.ResultLemmas.{bind_ok, both_ok}
 
 -- ---- literals
 

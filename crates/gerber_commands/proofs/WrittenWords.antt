@@ -1,44 +1,24 @@
 -- What a word is read as is written by that word.
-use Rattle.std.proofs.Common.{◌≡◌, ℕ, suc, ◌⊎◌, inl, inr, Bool, true, false, cond, not, ◌||◌, ◌&&◌, eqb, leb, List, [], ◌∷◌, ◌++◌, length, take, drop, ℤ, Option, Some, None, is_some, Result, Ok, Err, Contains, refl, sym, ap, subst, ◌∙◌, arith, append-nil, append_assoc}
-use Rattle.std.specs.Prelude.{codes, take_while, unwrap_or}
-use Rattle.std.specs.Option.{option_map, option_or}
-use Rattle.std.specs.List.{list_any, list_all, prefix_len, AllByRecursion}
-use Rattle.std.specs.Str.{bytes_eq}
-use Rattle.std.proofs.lemmas.Bool.{eqb-true, leb-true}
-use Rattle.std.proofs.lemmas.List.{take-append-drop}
+use Rattle.gerber_commands.proofs.Common.{◌≡◌, ℕ, suc, ◌⊎◌, inl, inr, Bool, true, false, cond, not, ◌||◌, ◌&&◌, eqb, leb, List, [], ◌∷◌, ◌++◌, length, take, drop, Option, Some, None, is_some, Result, Ok, Err, refl, sym, ap, subst, ◌∙◌, arith, append_assoc, codes, take_while, option_map, option_or, list_any, list_all, prefix_len, AllByRecursion, bytes_eq, eqb-true, leb-true, take-append-drop, Reason, BadWord, NegativeImage, Incremental, OldParameter, Inch, Millimetre, is_digit, is_number_char, ◌>>=◌, both, strip_prefix, literal_row, Command, Comment, Mode, Quadrant, RegionStart, RegionEnd, UnitIs, Select, Operate, Finish, Interpolation, Single, Multi, Action, Plot, Move, Flash, Meaning, Row, first_match, modes_of, is_negative_comment, comment_row, interpolations, match_mode, action, digits_after, named_action, is_plot, Fields, is_operation, has_offsets, words, NamesInt, fixed_words, modes, code, IsOperation, IsWord, both_true, map_contains, bind_ok, both_ok}
+use Rattle.std.proofs.Common.{ℤ, Contains, append-nil}
+use Rattle.std.specs.Prelude.{unwrap_or}
 use Rattle.std.proofs.lemmas.Slice.Eq.{bytes_eq-Decides}
-use Rattle.grid_units.specs.declared.fault.Reason.{Reason}
-use Rattle.grid_units.specs.declared.fault.Reason.TheVariants.{BadWord, NegativeImage, Incremental, OldParameter}
-use Rattle.grid_units.specs.declared.lengths.Unit.TheVariants.{Inch, Millimetre}
-use Rattle.grid_units.specs.Numbers.{is_digit, is_number_char}
-use Rattle.grid_units.specs.Results.{◌>>=◌, both}
-use Rattle.grid_units.specs.Rows.{strip_prefix, literal_row}
-use Rattle.gerber_commands.specs.declared.command.Command.{Command}
-use Rattle.gerber_commands.specs.declared.command.Command.TheVariants.{Comment, Mode, Quadrant, RegionStart, RegionEnd, UnitIs, Select, Operate, Finish}
-use Rattle.gerber_commands.specs.declared.command.Interpolation.{Interpolation}
-use Rattle.gerber_commands.specs.declared.command.QuadrantMode.TheVariants.{Single, Multi}
-use Rattle.gerber_commands.specs.declared.command.Action.{Action}
-use Rattle.gerber_commands.specs.declared.command.Action.TheVariants.{Plot, Move, Flash}
 use Rattle.gerber_commands.specs.Numbers.{int_of, nat_of}
-use Rattle.gerber_commands.specs.Rows.{Meaning, Row, first_match, field as split_field, modes_of}
-use Rattle.gerber_commands.specs.Negative.{is_negative_comment}
-use Rattle.gerber_commands.specs.Words.{no_effect_row, comment, comment_row, interpolations, match_mode, split_mode, mode_row, quadrant_row, region_row, unit_row, incremental_row, action, digits_after, d_word, g54_word, select_row, coordinate, action_with, kind, Fields, fields, is_action_code, is_operation, has_offsets, operands, operate, operation_row, finish_row, deprecated_row, words, word}
-use Rattle.gerber_commands.specs.WordGrammar.{field, NamesInt, fixed_words, modes, code, IsOperation, IsWord}
+use Rattle.gerber_commands.specs.Rows.{field as split_field}
+use Rattle.gerber_commands.specs.Words.{no_effect_row, comment, split_mode, mode_row, quadrant_row, region_row, unit_row, incremental_row, d_word, g54_word, select_row, coordinate, kind, fields, is_action_code, operands, operate, operation_row, finish_row, deprecated_row, word}
+use Rattle.gerber_commands.specs.WordGrammar.{field}
 use Rattle.gerber_commands.proofs.FieldLemmas.{some_is, written_fields}
-use Rattle.grid_units.proofs.BoolLemmas.{both_true}
-use Rattle.grid_units.proofs.ListLemmas.{map_contains}
-use Rattle.grid_units.proofs.ResultLemmas.{bind_ok, both_ok}
 
 -- ---- rows
 
 -- what a row answers is written by the text
-abbrev pub RowWritten : Bool → List ℕ → Row → Type 0
-RowWritten plotting text row = (commands : List Command) → row ≡ Some (Ok commands) → IsWord plotting text commands
+abbrev pub RowWritten : Option Action → List ℕ → Row → Type 0
+RowWritten last text row = (commands : List Command) → row ≡ Some (Ok commands) → IsWord last text commands
 
-first_written : (plotting : Bool) (text : List ℕ) (rows : List Row) → AllByRecursion (RowWritten plotting text) rows → (commands : List Command) → first_match rows ≡ Ok commands → IsWord plotting text commands
-first_written plotting text [] h cs e = absurd cc
-first_written plotting text (None ∷ rows) h cs e = first_written plotting text rows h.1 cs e
-first_written plotting text (Some m ∷ rows) h cs e = h.0 cs (ap (λ (n : Meaning). Some n) e)
+first_written : (last : Option Action) (text : List ℕ) (rows : List Row) → AllByRecursion (RowWritten last text) rows → (commands : List Command) → first_match rows ≡ Ok commands → IsWord last text commands
+first_written last text [] h cs e = absurd cc
+first_written last text (None ∷ rows) h cs e = first_written last text rows h.1 cs e
+first_written last text (Some m ∷ rows) h cs e = h.0 cs (ap (λ (n : Meaning). Some n) e)
 
 -- an answer
 abbrev answer : {A : Type 0} → A → Result A Reason
@@ -69,65 +49,65 @@ bytes_are a b e = (bytes_eq-Decides a b).0 e
 
 -- ---- words of one form
 
-fixed : (plotting : Bool) (text : List ℕ) (c : List Command) → Contains fixed_words (text, c) → (cs : List Command) → answer c ≡ Ok cs → IsWord plotting text cs
-fixed plotting text c at cs e = inl (subst (λ (d : List Command). Contains fixed_words (text, d)) (ok_is c cs e) at)
+fixed : (last : Option Action) (text : List ℕ) (c : List Command) → Contains fixed_words (text, c) → (cs : List Command) → answer c ≡ Ok cs → IsWord last text cs
+fixed last text c at cs e = inl (subst (λ (d : List Command). Contains fixed_words (text, d)) (ok_is c cs e) at)
 
 -- what a row of literals answers is what one of them spells
-literal_written : (plotting : Bool) (text : List ℕ) (forms : List (List ℕ × Meaning)) → AllByRecursion (λ form. (cs : List Command) → form.1 ≡ Ok cs → IsWord plotting form.0 cs) forms → RowWritten plotting text (literal_row forms text)
-literal_written plotting text [] h cs e = absurd cc
-literal_written plotting text (form ∷ forms) h cs e = by (bytes_eq text form.0) refl e (literal_written plotting text forms h.1 cs)
+literal_written : (last : Option Action) (text : List ℕ) (forms : List (List ℕ × Meaning)) → AllByRecursion (λ form. (cs : List Command) → form.1 ≡ Ok cs → IsWord last form.0 cs) forms → RowWritten last text (literal_row forms text)
+literal_written last text [] h cs e = absurd cc
+literal_written last text (form ∷ forms) h cs e = by (bytes_eq text form.0) refl e (literal_written last text forms h.1 cs)
   where
-    by : (t : Bool) → bytes_eq text form.0 ≡ t → cond t (Some form.1) (literal_row forms text) ≡ Some (Ok cs) → (literal_row forms text ≡ Some (Ok cs) → IsWord plotting text cs) → IsWord plotting text cs
-    by true t e later = subst (λ (w : List ℕ). IsWord plotting w cs) (sym (bytes_are text form.0 t)) (h.0 cs (some_is form.1 (Ok cs) e))
+    by : (t : Bool) → bytes_eq text form.0 ≡ t → cond t (Some form.1) (literal_row forms text) ≡ Some (Ok cs) → (literal_row forms text ≡ Some (Ok cs) → IsWord last text cs) → IsWord last text cs
+    by true t e later = subst (λ (w : List ℕ). IsWord last w cs) (sym (bytes_are text form.0 t)) (h.0 cs (some_is form.1 (Ok cs) e))
     by false t e later = later e
 
-quadrant_written : (plotting : Bool) (text : List ℕ) → RowWritten plotting text (quadrant_row text)
+quadrant_written : (last : Option Action) (text : List ℕ) → RowWritten last text (quadrant_row text)
 unfolding quadrant_row
-quadrant_written plotting text = literal_written plotting text ((codes "G74", Ok (Quadrant Single ∷ [])) ∷ (codes "G75", Ok (Quadrant Multi ∷ [])) ∷ [])
-    (fixed plotting (codes "G74") (Quadrant Single ∷ []) (2, omega arith, refl), (fixed plotting (codes "G75") (Quadrant Multi ∷ []) (3, omega arith, refl), tt))
+quadrant_written last text = literal_written last text ((codes "G74", Ok (Quadrant Single ∷ [])) ∷ (codes "G75", Ok (Quadrant Multi ∷ [])) ∷ [])
+    (fixed last (codes "G74") (Quadrant Single ∷ []) (2, omega arith, refl), (fixed last (codes "G75") (Quadrant Multi ∷ []) (3, omega arith, refl), tt))
 
-region_written : (plotting : Bool) (text : List ℕ) → RowWritten plotting text (region_row text)
+region_written : (last : Option Action) (text : List ℕ) → RowWritten last text (region_row text)
 unfolding region_row
-region_written plotting text = literal_written plotting text ((codes "G36", Ok (RegionStart ∷ [])) ∷ (codes "G37", Ok (RegionEnd ∷ [])) ∷ [])
-    (fixed plotting (codes "G36") (RegionStart ∷ []) (4, omega arith, refl), (fixed plotting (codes "G37") (RegionEnd ∷ []) (5, omega arith, refl), tt))
+region_written last text = literal_written last text ((codes "G36", Ok (RegionStart ∷ [])) ∷ (codes "G37", Ok (RegionEnd ∷ [])) ∷ [])
+    (fixed last (codes "G36") (RegionStart ∷ []) (4, omega arith, refl), (fixed last (codes "G37") (RegionEnd ∷ []) (5, omega arith, refl), tt))
 
-unit_written : (plotting : Bool) (text : List ℕ) → RowWritten plotting text (unit_row text)
+unit_written : (last : Option Action) (text : List ℕ) → RowWritten last text (unit_row text)
 unfolding unit_row
-unit_written plotting text = literal_written plotting text ((codes "G70", Ok (UnitIs Inch ∷ [])) ∷ (codes "G71", Ok (UnitIs Millimetre ∷ [])) ∷ [])
-    (fixed plotting (codes "G70") (UnitIs Inch ∷ []) (6, omega arith, refl), (fixed plotting (codes "G71") (UnitIs Millimetre ∷ []) (7, omega arith, refl), tt))
+unit_written last text = literal_written last text ((codes "G70", Ok (UnitIs Inch ∷ [])) ∷ (codes "G71", Ok (UnitIs Millimetre ∷ [])) ∷ [])
+    (fixed last (codes "G70") (UnitIs Inch ∷ []) (6, omega arith, refl), (fixed last (codes "G71") (UnitIs Millimetre ∷ []) (7, omega arith, refl), tt))
 
-incremental_written : (plotting : Bool) (text : List ℕ) → RowWritten plotting text (incremental_row text)
+incremental_written : (last : Option Action) (text : List ℕ) → RowWritten last text (incremental_row text)
 unfolding incremental_row
-incremental_written plotting text = literal_written plotting text ((codes "G91", Err Incremental) ∷ []) ((λ cs e. absurd cc), tt)
+incremental_written last text = literal_written last text ((codes "G91", Err Incremental) ∷ []) ((λ cs e. absurd cc), tt)
 
 -- one of two literals
-one_of_two : (plotting : Bool) (text v w : List ℕ) (c : List Command) → Contains fixed_words (v, c) → Contains fixed_words (w, c) → (text ≡ v) ⊎ (text ≡ w) → (cs : List Command) → Some (answer c) ≡ Some (Ok cs) → IsWord plotting text cs
-one_of_two plotting text v w c at_v at_w h cs e = elim h [
-  | inl k ↦ fixed plotting text c (subst (λ (u : List ℕ). Contains fixed_words (u, c)) (sym k) at_v) cs (some_is (Ok c) (Ok cs) e)
-  | inr k ↦ fixed plotting text c (subst (λ (u : List ℕ). Contains fixed_words (u, c)) (sym k) at_w) cs (some_is (Ok c) (Ok cs) e)
+one_of_two : (last : Option Action) (text v w : List ℕ) (c : List Command) → Contains fixed_words (v, c) → Contains fixed_words (w, c) → (text ≡ v) ⊎ (text ≡ w) → (cs : List Command) → Some (answer c) ≡ Some (Ok cs) → IsWord last text cs
+one_of_two last text v w c at_v at_w h cs e = elim h [
+  | inl k ↦ fixed last text c (subst (λ (u : List ℕ). Contains fixed_words (u, c)) (sym k) at_v) cs (some_is (Ok c) (Ok cs) e)
+  | inr k ↦ fixed last text c (subst (λ (u : List ℕ). Contains fixed_words (u, c)) (sym k) at_w) cs (some_is (Ok c) (Ok cs) e)
 ]
 
 no_bytes : (text : List ℕ) → eqb (length text) 0 ≡ true → text ≡ []
 no_bytes [] e = refl
 no_bytes (b ∷ bs) e = absurd (omega (arith, eqb-true (length (b ∷ bs)) 0 e))
 
-no_effect_written : (plotting : Bool) (text : List ℕ) → RowWritten plotting text (no_effect_row text)
+no_effect_written : (last : Option Action) (text : List ℕ) → RowWritten last text (no_effect_row text)
 unfolding no_effect_row
-no_effect_written plotting text cs e =
+no_effect_written last text cs e =
     let t = row_test (eqb (length text) 0 || bytes_eq text (codes "G90")) (Some (Ok [])) cs e in
     let is : (text ≡ []) ⊎ (text ≡ codes "G90") = elim (either_is (eqb (length text) 0) (bytes_eq text (codes "G90")) t.0) [ inl k ↦ inl (no_bytes text k) | inr k ↦ inr (bytes_are text (codes "G90") k) ] in
-    one_of_two plotting text [] (codes "G90") [] (0, omega arith, refl) (1, omega arith, refl) is cs t.1
+    one_of_two last text [] (codes "G90") [] (0, omega arith, refl) (1, omega arith, refl) is cs t.1
 
-finish_written : (plotting : Bool) (text : List ℕ) → RowWritten plotting text (finish_row text)
+finish_written : (last : Option Action) (text : List ℕ) → RowWritten last text (finish_row text)
 unfolding finish_row
-finish_written plotting text cs e =
+finish_written last text cs e =
     let t = row_test (bytes_eq text (codes "M02") || bytes_eq text (codes "M2")) (Some (Ok (Finish ∷ []))) cs e in
     let is : (text ≡ codes "M02") ⊎ (text ≡ codes "M2") = elim (either_is (bytes_eq text (codes "M02")) (bytes_eq text (codes "M2")) t.0) [ inl k ↦ inl (bytes_are text (codes "M02") k) | inr k ↦ inr (bytes_are text (codes "M2") k) ] in
-    one_of_two plotting text (codes "M02") (codes "M2") (Finish ∷ []) (8, omega arith, refl) (9, omega arith, refl) is cs t.1
+    one_of_two last text (codes "M02") (codes "M2") (Finish ∷ []) (8, omega arith, refl) (9, omega arith, refl) is cs t.1
 
-deprecated_written : (plotting : Bool) (text : List ℕ) → RowWritten plotting text (deprecated_row text)
+deprecated_written : (last : Option Action) (text : List ℕ) → RowWritten last text (deprecated_row text)
 unfolding deprecated_row
-deprecated_written plotting text cs e =
+deprecated_written last text cs e =
     let t = row_test (bytes_eq text (codes "M00") || (bytes_eq text (codes "M01") || is_some (strip_prefix (codes "N") text))) (Some (Err OldParameter)) cs e in
     absurd (let k : Some (Err OldParameter) ≡ Some (Ok cs) = t.1 in cc)
 
@@ -149,9 +129,9 @@ comment_is : (t : Bool) (text : List ℕ) (cs : List Command) → cond t (Err Ne
 comment_is true text cs e = absurd cc
 comment_is false text cs e = (refl, cc)
 
-comment_written : (plotting : Bool) (text : List ℕ) → list_any (λ b. eqb b 37) text ≡ false → RowWritten plotting text (comment_row text)
+comment_written : (last : Option Action) (text : List ℕ) → list_any (λ b. eqb b 37) text ≡ false → RowWritten last text (comment_row text)
 unfolding comment
-comment_written plotting text percent cs e =
+comment_written last text percent cs e =
     let k = mapped comment (strip_prefix (codes "G04") text) (Ok cs) e in
     let is : text ≡ codes "G04" ++ k.0 = prefix_is (codes "G04") text k.0 k.1 in
     let c = comment_is (is_negative_comment k.0) k.0 cs k.2 in
@@ -191,9 +171,9 @@ front text = elim (splits interpolations text) [
   | inr k ↦ let at = mode_at k.0 k.1 in record { mode = (k.0.0, Mode k.0.1 ∷ []); mode_is = (suc at.0, (let lt = at.1 in omega arith), at.2); spells = ap modes_of (sym k.2); written = k.3 }
 ]
 
-mode_written : (plotting : Bool) (text : List ℕ) → RowWritten plotting text (mode_row text)
+mode_written : (last : Option Action) (text : List ℕ) → RowWritten last text (mode_row text)
 unfolding mode_row split_mode
-mode_written plotting text cs e =
+mode_written last text cs e =
     let split = match_mode interpolations text in
     let t = row_test (eqb (length split.1) 0) (option_map (λ mode. Ok (Mode mode ∷ [])) split.0) cs e in
     let m = mapped (λ mode. Ok (Mode mode ∷ [])) split.0 (Ok cs) t.1 in
@@ -228,12 +208,12 @@ action_is n a e = by (eqb n 1) (eqb n 2) (eqb n 3) refl refl refl e
     by false false true one two three e = same 3 Flash (eqb-true n 3 three) e refl
     by false false false one two three e = absurd cc
 
-selection : (plotting : Bool) (text digits : List ℕ) (n : ℕ) (cs : List Command) → (text ≡ codes "D" ++ digits) ⊎ (text ≡ codes "G54D" ++ digits) → nat_of digits ≡ Ok n → leb 10 n ≡ true → answer (Select n ∷ []) ≡ Ok cs → IsWord plotting text cs
-selection plotting text digits n cs is reads le e = inr (inr (inr (inl (digits, n, is, reads, leb-true 10 n le, sym (ok_is (Select n ∷ []) cs e)))))
+selection : (last : Option Action) (text digits : List ℕ) (n : ℕ) (cs : List Command) → (text ≡ codes "D" ++ digits) ⊎ (text ≡ codes "G54D" ++ digits) → nat_of digits ≡ Ok n → leb 10 n ≡ true → answer (Select n ∷ []) ≡ Ok cs → IsWord last text cs
+selection last text digits n cs is reads le e = inr (inr (inr (inl (digits, n, is, reads, leb-true 10 n le, sym (ok_is (Select n ∷ []) cs e)))))
 
 -- an operation of a D code alone
-bare : (plotting : Bool) (text digits : List ℕ) (n : ℕ) (a : Action) (cs : List Command) → text ≡ codes "D" ++ digits → nat_of digits ≡ Ok n → action n ≡ Ok a → answer (Operate a None None None None ∷ []) ≡ Ok cs → IsOperation plotting text cs
-bare plotting text digits n a cs is reads does e = record {
+bare : (last : Option Action) (text digits : List ℕ) (n : ℕ) (a : Action) (cs : List Command) → text ≡ codes "D" ++ digits → nat_of digits ≡ Ok n → action n ≡ Ok a → answer (Operate a None None None None ∷ []) ≡ Ok cs → IsOperation last text cs
+bare last text digits n a cs is reads does e = record {
   mode = ([], []);
   x = None;
   y = None;
@@ -252,31 +232,31 @@ bare plotting text digits n a cs is reads does e = record {
   is = sym (ok_is (Operate a None None None None ∷ []) cs e);
 }
 
-d_word_written : (plotting : Bool) (text digits : List ℕ) (cs : List Command) → text ≡ codes "D" ++ digits → d_word digits ≡ Ok cs → IsWord plotting text cs
+d_word_written : (last : Option Action) (text digits : List ℕ) (cs : List Command) → text ≡ codes "D" ++ digits → d_word digits ≡ Ok cs → IsWord last text cs
 unfolding d_word
-d_word_written plotting text digits cs is e =
+d_word_written last text digits cs is e =
     let k = bind_ok (nat_of digits) (λ n. cond (leb 10 n) (Ok (Select n ∷ [])) (action n >>= λ what. Ok (Operate what None None None None ∷ []))) cs e in
     by k.0 k.1 (leb 10 k.0) refl k.2
   where
-    by : (n : ℕ) → nat_of digits ≡ Ok n → (t : Bool) → leb 10 n ≡ t → cond t (Ok (Select n ∷ [])) (action n >>= λ what. Ok (Operate what None None None None ∷ [])) ≡ Ok cs → IsWord plotting text cs
-    by n reads true t e = selection plotting text digits n cs (inl is) reads t e
-    by n reads false t e = let k = bind_ok (action n) (λ what. Ok (Operate what None None None None ∷ [])) cs e in inr (inr (inr (inr (bare plotting text digits n k.0 cs is reads k.1 k.2))))
+    by : (n : ℕ) → nat_of digits ≡ Ok n → (t : Bool) → leb 10 n ≡ t → cond t (Ok (Select n ∷ [])) (action n >>= λ what. Ok (Operate what None None None None ∷ [])) ≡ Ok cs → IsWord last text cs
+    by n reads true t e = selection last text digits n cs (inl is) reads t e
+    by n reads false t e = let k = bind_ok (action n) (λ what. Ok (Operate what None None None None ∷ [])) cs e in inr (inr (inr (inr (bare last text digits n k.0 cs is reads k.1 k.2))))
 
-g54_word_written : (plotting : Bool) (text digits : List ℕ) (cs : List Command) → text ≡ codes "G54D" ++ digits → g54_word digits ≡ Ok cs → IsWord plotting text cs
+g54_word_written : (last : Option Action) (text digits : List ℕ) (cs : List Command) → text ≡ codes "G54D" ++ digits → g54_word digits ≡ Ok cs → IsWord last text cs
 unfolding g54_word
-g54_word_written plotting text digits cs is e =
+g54_word_written last text digits cs is e =
     let k = bind_ok (nat_of digits) (λ n. cond (leb 10 n) (Ok (Select n ∷ [])) (Err BadWord)) cs e in
     by k.0 k.1 (leb 10 k.0) refl k.2
   where
-    by : (n : ℕ) → nat_of digits ≡ Ok n → (t : Bool) → leb 10 n ≡ t → cond t (Ok (Select n ∷ [])) (Err BadWord) ≡ Ok cs → IsWord plotting text cs
-    by n reads true t e = selection plotting text digits n cs (inr is) reads t e
+    by : (n : ℕ) → nat_of digits ≡ Ok n → (t : Bool) → leb 10 n ≡ t → cond t (Ok (Select n ∷ [])) (Err BadWord) ≡ Ok cs → IsWord last text cs
+    by n reads true t e = selection last text digits n cs (inr is) reads t e
     by n reads false t e = absurd cc
 
-select_written : (plotting : Bool) (text : List ℕ) → RowWritten plotting text (select_row text)
+select_written : (last : Option Action) (text : List ℕ) → RowWritten last text (select_row text)
 unfolding select_row
-select_written plotting text cs e = elim (row_either (option_map d_word (digits_after (codes "D") text)) (option_map g54_word (digits_after (codes "G54D") text)) cs e) [
-  | inl h ↦ let k = mapped d_word (digits_after (codes "D") text) (Ok cs) h in d_word_written plotting text k.0 cs (digits_are (codes "D") text k.0 k.1) k.2
-  | inr h ↦ let k = mapped g54_word (digits_after (codes "G54D") text) (Ok cs) h in g54_word_written plotting text k.0 cs (digits_are (codes "G54D") text k.0 k.1) k.2
+select_written last text cs e = elim (row_either (option_map d_word (digits_after (codes "D") text)) (option_map g54_word (digits_after (codes "G54D") text)) cs e) [
+  | inl h ↦ let k = mapped d_word (digits_after (codes "D") text) (Ok cs) h in d_word_written last text k.0 cs (digits_are (codes "D") text k.0 k.1) k.2
+  | inr h ↦ let k = mapped g54_word (digits_after (codes "G54D") text) (Ok cs) h in g54_word_written last text k.0 cs (digits_are (codes "G54D") text k.0 k.1) k.2
 ]
 
 -- ---- operations
@@ -336,7 +316,7 @@ and_is : (t : Bool) → (t && true) ≡ false → t ≡ false
 and_is true h = h
 and_is false h = refl
 
-offsets_plot : (a : Action) (i j : Option (List ℕ)) → ((is_some i || is_some j) && not (eqb (code a) 1)) ≡ false → (a ≡ Plot) ⊎ ((i ≡ None) × (j ≡ None))
+offsets_plot : (a : Action) (i j : Option (List ℕ)) → ((is_some i || is_some j) && not (is_plot a)) ≡ false → (a ≡ Plot) ⊎ ((i ≡ None) × (j ≡ None))
 offsets_plot Plot i j h = inl refl
 offsets_plot Move i j h = inr (none_stand i j (and_is (is_some i || is_some j) h))
 offsets_plot Flash i j h = inr (none_stand i j (and_is (is_some i || is_some j) h))
@@ -345,31 +325,32 @@ guard_is : (t : Bool) (a what : Action) → cond t (Err BadWord) (Ok a) ≡ Ok w
 guard_is true a what e = absurd cc
 guard_is false a what e = (refl, cc)
 
-bare_plot : (plotting : Bool) (reason : Reason) (what : Action) → cond plotting (Ok Plot) (Err reason) ≡ Ok what → (what ≡ Plot) × (plotting ≡ true)
-bare_plot true reason what e = (sym (ok_is Plot what e), refl)
-bare_plot false reason what e = absurd cc
+-- by its D code, or the last operation again
+names_it : (last : Option Action) (d : Option (List ℕ)) (what : Action) → named_action d last ≡ Ok what → (option_map nat_of d ≡ Some (Ok (code what))) ⊎ ((d ≡ None) × (last ≡ Some what))
+names_it None None what e = absurd cc
+names_it (Some done) None what e = inr (refl, ap (λ (a : Action). Some a) (ok_is done what e))
+names_it last (Some digits) what e =
+    let n = bind_ok (nat_of digits) action what e in
+    inl (ap (λ (r : Result ℕ Reason). Some r) (n.1 ∙ ap (λ m. Ok m) (action_is n.0 what n.2)))
 
-does_it : (plotting : Bool) (i j d : Option (List ℕ)) (what : Action) → kind plotting (is_some i || is_some j) d ≡ Ok what
-    → ((option_map nat_of d ≡ Some (Ok (code what))) ⊎ ((d ≡ None) × (what ≡ Plot) × (plotting ≡ true))) × ((what ≡ Plot) ⊎ ((i ≡ None) × (j ≡ None)))
+does_it : (last : Option Action) (i j d : Option (List ℕ)) (what : Action) → kind last (is_some i || is_some j) d ≡ Ok what
+    → ((option_map nat_of d ≡ Some (Ok (code what))) ⊎ ((d ≡ None) × (last ≡ Some what))) × ((what ≡ Plot) ⊎ ((i ≡ None) × (j ≡ None)))
 unfolding kind
-does_it plotting i j None what e = let k = bare_plot plotting _ what e in (inr (refl, k.0, k.1), inl k.0)
-does_it plotting i j (Some digits) what e =
-    let n = bind_ok (nat_of digits) (action_with (is_some i || is_some j)) what e in
-    let a = bind_ok (action n.0) (λ done. cond ((is_some i || is_some j) && not (eqb n.0 1)) (Err BadWord) (Ok done)) what n.2 in
-    let g = guard_is ((is_some i || is_some j) && not (eqb n.0 1)) a.0 what a.2 in
-    let is : n.0 ≡ code what = action_is n.0 what (a.1 ∙ ap (λ (b : Action). Ok b) g.1) in
-    (inl (ap (λ (r : Result ℕ Reason). Some r) (n.1 ∙ ap (λ m. Ok m) is)), offsets_plot what i j (ap (λ m. (is_some i || is_some j) && not (eqb m 1)) (sym is) ∙ g.0))
+does_it last i j d what e =
+    let a = bind_ok (named_action d last) (λ done. cond ((is_some i || is_some j) && not (is_plot done)) (Err BadWord) (Ok done)) what e in
+    let g = guard_is ((is_some i || is_some j) && not (is_plot a.0)) a.0 what a.2 in
+    (names_it last d what (a.1 ∙ ap (λ (b : Action). Ok b) g.1), offsets_plot what i j (ap (λ b. (is_some i || is_some j) && not (is_plot b)) (sym g.1) ∙ g.0))
 
-operate_written : (plotting : Bool) (text : List ℕ) (mode : Option Interpolation) (rest : List ℕ) (f : Fields) (cs : List Command) → Front text (mode, rest) → rest ≡ written_fields f → is_operation f ≡ true → operate plotting mode f ≡ Ok cs → IsOperation plotting text cs
+operate_written : (last : Option Action) (text : List ℕ) (mode : Option Interpolation) (rest : List ℕ) (f : Fields) (cs : List Command) → Front text (mode, rest) → rest ≡ written_fields f → is_operation f ≡ true → operate last mode f ≡ Ok cs → IsOperation last text cs
 unfolding operate operands
-operate_written plotting text mode rest f cs start whole fits e =
-    let k = bind_ok (both (both (both (coordinate f.x) (coordinate f.y)) (both (coordinate f.i) (coordinate f.j))) (kind plotting (has_offsets f) f.d)) (λ r. Ok (modes_of mode ++ Operate r.1 r.0.0.0 r.0.0.1 r.0.1.0 r.0.1.1 ∷ [])) cs e in
+operate_written last text mode rest f cs start whole fits e =
+    let k = bind_ok (both (both (both (coordinate f.x) (coordinate f.y)) (both (coordinate f.i) (coordinate f.j))) (kind last (has_offsets f) f.d)) (λ r. Ok (modes_of mode ++ Operate r.1 r.0.0.0 r.0.0.1 r.0.1.0 r.0.1.1 ∷ [])) cs e in
     let r = k.0 in
-    let o = both_ok (both (both (coordinate f.x) (coordinate f.y)) (both (coordinate f.i) (coordinate f.j))) (kind plotting (has_offsets f) f.d) r k.1 in
+    let o = both_ok (both (both (coordinate f.x) (coordinate f.y)) (both (coordinate f.i) (coordinate f.j))) (kind last (has_offsets f) f.d) r k.1 in
     let four = both_ok (both (coordinate f.x) (coordinate f.y)) (both (coordinate f.i) (coordinate f.j)) r.0 o.0 in
     let xy = both_ok (coordinate f.x) (coordinate f.y) r.0.0 four.0 in
     let ij = both_ok (coordinate f.i) (coordinate f.j) r.0.1 four.1 in
-    let does = does_it plotting f.i f.j f.d r.1 o.1 in
+    let does = does_it last f.i f.j f.d r.1 o.1 in
     let stands = both_true (eqb (length f.rest) 0) (is_some f.x || (is_some f.y || (is_some f.i || (is_some f.j || is_action_code f.d)))) fits in
     record {
       mode = start.mode;
@@ -390,23 +371,23 @@ operate_written plotting text mode rest f cs start whole fits e =
       is = spelled_is start.mode.1 (modes_of mode) (Operate r.1 r.0.0.0 r.0.0.1 r.0.1.0 r.0.1.1) cs start.spells k.2;
     }
 
-operation_written : (plotting : Bool) (text : List ℕ) → RowWritten plotting text (operation_row plotting text)
+operation_written : (last : Option Action) (text : List ℕ) → RowWritten last text (operation_row last text)
 unfolding operation_row
-operation_written plotting text cs e =
+operation_written last text cs e =
     let split = split_mode text in
-    let t = row_test (is_operation (fields split.1)) (Some (operate plotting split.0 (fields split.1))) cs e in
+    let t = row_test (is_operation (fields split.1)) (Some (operate last split.0 (fields split.1))) cs e in
     let nothing = both_true (eqb (length (fields split.1).rest) 0) _ t.0 in
-    inr (inr (inr (inr (operate_written plotting text split.0 split.1 (fields split.1) cs (front text) (fields_written split.1 nothing.0) t.0 (some_is (operate plotting split.0 (fields split.1)) (Ok cs) t.1)))))
+    inr (inr (inr (inr (operate_written last text split.0 split.1 (fields split.1) cs (front text) (fields_written split.1 nothing.0) t.0 (some_is (operate last split.0 (fields split.1)) (Ok cs) t.1)))))
 
 -- ---- words
 
-pub word_written : (plotting : Bool) (text : List ℕ) (commands : List Command) → word plotting text ≡ Ok commands → IsWord plotting text commands
+pub word_written : (last : Option Action) (text : List ℕ) (commands : List Command) → word last text ≡ Ok commands → IsWord last text commands
 unfolding word
-word_written plotting text commands e = by (list_any (λ b. eqb b 37) text) refl e
+word_written last text commands e = by (list_any (λ b. eqb b 37) text) refl e
   where
-    by : (t : Bool) → list_any (λ b. eqb b 37) text ≡ t → cond t (Err BadWord) (first_match (words plotting text)) ≡ Ok commands → IsWord plotting text commands
+    by : (t : Bool) → list_any (λ b. eqb b 37) text ≡ t → cond t (Err BadWord) (first_match (words last text)) ≡ Ok commands → IsWord last text commands
     by true t e = absurd cc
     by false t e =
-        first_written plotting text (words plotting text)
-        (no_effect_written plotting text, (comment_written plotting text t, (mode_written plotting text, (quadrant_written plotting text, (region_written plotting text, (unit_written plotting text, (incremental_written plotting text, (select_written plotting text, (operation_written plotting text, (finish_written plotting text, (deprecated_written plotting text, tt)))))))))))
+        first_written last text (words last text)
+        (no_effect_written last text, (comment_written last text t, (mode_written last text, (quadrant_written last text, (region_written last text, (unit_written last text, (incremental_written last text, (select_written last text, (operation_written last text, (finish_written last text, (deprecated_written last text, tt)))))))))))
         commands e

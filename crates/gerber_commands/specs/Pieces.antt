@@ -3,7 +3,7 @@ use Rattle.std.specs.Prelude.{ℕ, ◌-◌, ◌+◌, Bool, true, false, not, ◌
 use Rattle.std.specs.Str.{bytes_eq}
 use Rattle.std.specs.Option.{option_map, option_or}
 use Rattle.std.specs.Ordering.{int_eq}
-use Rattle.std.specs.List.{list_any, list_all, prefix_len, take_while, slice_split}
+use Rattle.std.specs.List.{list_any, list_all, prefix_len, take_while}
 use Rattle.grid_units.specs.Results.{◌>>=◌, both}
 use Rattle.grid_units.specs.Numbers.{is_digit, is_number_char, parse_decimal}
 use Rattle.grid_units.specs.declared.fault.Reason.{Reason}
@@ -16,21 +16,12 @@ use Rattle.gerber_commands.specs.declared.command.Standard.{Standard}
 use Rattle.gerber_commands.specs.declared.command.Standard.TheVariants.{Circle, Rectangle, Obround, Polygon}
 use Rattle.gerber_commands.specs.declared.command.Template.TheVariants as templates
 use Rattle.gerber_commands.specs.Numbers.{nat_of}
-use Rattle.grid_units.specs.Rows.{strip_prefix, literal_row}
+use Rattle.grid_units.specs.Rows.{strip_prefix, literal_row, split_by}
 use Rattle.gerber_commands.specs.Rows.{Meaning, Row, first_match, field}
 use Rattle.gerber_commands.specs.Negative.{is_negative_image}
 use Rattle.grid_units.specs.Ascii as ascii
 
 -- ---- pieces
-
--- the parts of a text between the bytes that divide it: `0.5X1` divided at `X` is `0.5` and `1` (docs/FORMATS.md, Cutting)
-abbrev pub split_by : ℕ → List ℕ → List (List ℕ)
-split_by at text = slice_split (λ b. b == at) text
-
--- the parts of an optional text, none where there is no text (docs/FORMATS.md, Cutting)
-abbrev pub split_by_if : ℕ → Option (List ℕ) → List (List ℕ)
-split_by_if at None = []
-split_by_if at (Some text) = split_by at text
 
 -- the last byte of a text, as a list; no byte of the empty text (docs/FORMATS.md, Cutting)
 abbrev pub last_byte : List ℕ → List ℕ

@@ -3,14 +3,14 @@ use Rattle.std.specs.Prelude.{◌≡◌, ◌⊎◌, ℕ, List, [], ◌∷◌, �
 use Rattle.std.specs.List.{join_with_byte}
 use Rattle.std.specs.Str.{bytes_eq}
 use Rattle.grid_units.specs.Results.{◌>>=◌}
-use Rattle.grid_units.specs.Rows.{literal_row, strip_prefix}
+use Rattle.grid_units.specs.Rows.{literal_row, strip_prefix, split_by}
 use Rattle.grid_units.specs.declared.fault.Reason.TheVariants.{BadWord}
 use Rattle.gerber_commands.specs.declared.command.Command.{Command}
 use Rattle.gerber_commands.specs.declared.command.Command.TheVariants.{Clear}
 use Rattle.grid_units.specs.declared.profile.Profile.{Profile}
 use Rattle.grid_units.specs.declared.profile.Profile.TheVariants.{Strict, Wide}
 use Rattle.gerber_commands.specs.Rows.{Meaning, Row, first_match}
-use Rattle.gerber_commands.specs.Pieces.{before_last, extended_meaning, has_several_pieces, last_byte, pieces, split_by}
+use Rattle.gerber_commands.specs.Pieces.{before_last, extended_meaning, has_several_pieces, last_byte, pieces}
 use Rattle.gerber_commands.specs.PieceGrammar.{HasNo, IsPiece}
 use Rattle.grid_units.specs.Ascii as ascii
 

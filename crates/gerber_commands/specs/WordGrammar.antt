@@ -1,5 +1,5 @@
 -- The grammar of words: the bytes that are written for a list of commands (docs/FORMATS.md, Words).
-use Rattle.std.specs.Prelude.{◌≡◌, ◌≤◌, ◌⊎◌, ◌==◌, ℕ, ℤ, Bool, true, false, List, [], ◌∷◌, ◌++◌, Option, None, Some, is_some, Ok, IsTrue, codes}
+use Rattle.std.specs.Prelude.{◌≡◌, ◌≤◌, ◌⊎◌, ◌==◌, ℕ, ℤ, false, List, [], ◌∷◌, ◌++◌, Option, None, Some, is_some, Ok, IsTrue, codes}
 use Rattle.std.specs.Option.{option_map}
 use Rattle.std.specs.List.{Contains, list_any}
 use Rattle.grid_units.specs.declared.lengths.Unit.TheVariants.{Inch, Millimetre}
@@ -58,7 +58,7 @@ code Move = 2
 code Flash = 3
 
 -- an operation: an interpolation or none, then one field or more, in this order: `G01X10Y20D01` (Gerber format, Operations D01, D02, D03; Coordinate data)
-pub record IsOperation (plotting : Bool) (word : List ℕ) (commands : List Command) : Type 0 where
+pub record IsOperation (last : Option Action) (word : List ℕ) (commands : List Command) : Type 0 where
   pub mode : List ℕ × List Command
   pub x : Option (List ℕ)
   pub y : Option (List ℕ)
@@ -72,15 +72,15 @@ pub record IsOperation (plotting : Bool) (word : List ℕ) (commands : List Comm
   pub written : word ≡ mode.0 ++ field (codes "X") x ++ field (codes "Y") y ++ field (codes "I") i ++ field (codes "J") j ++ field (codes "D") d
   pub some : IsTrue (list_any is_some (x ∷ y ∷ i ∷ j ∷ d ∷ []))
   pub names : NamesInt x at.0 × NamesInt y at.1 × NamesInt i offset.0 × NamesInt j offset.1
-  -- by its D code; without one a plot goes on, as `X5` (Gerber format, Coordinate data without operation code)
-  pub does : (option_map nat_of d ≡ Some (Ok (code what))) ⊎ ((d ≡ None) × (what ≡ Plot) × (plotting ≡ true))
+  -- by its D code; without one it is the last operation again, as by `X5` (Gerber format, Coordinate data without operation code)
+  pub does : (option_map nat_of d ≡ Some (Ok (code what))) ⊎ ((d ≡ None) × (last ≡ Some what))
   -- only a plot has offsets, as `I5J5D01`
   pub plots : (what ≡ Plot) ⊎ ((i ≡ None) × (j ≡ None))
   pub is : commands ≡ mode.1 ++ Operate what at.0 at.1 offset.0 offset.1 ∷ []
 
 -- ---- words
 
--- a word without its `*` is written for these commands, where the last operation before it is a plot or not: `X5` only where that operation is a plot
-abbrev pub IsWord : Bool → List ℕ → List Command → Type 0
-IsWord plotting word commands =
-    Contains fixed_words (word, commands) ⊎ (Contains modes (word, commands) ⊎ (IsComment word commands ⊎ (IsSelection word commands ⊎ IsOperation plotting word commands)))
+-- a word without its `*` is written for these commands, where coordinates alone repeat this last operation, or none: `X5` only where they repeat one
+abbrev pub IsWord : Option Action → List ℕ → List Command → Type 0
+IsWord last word commands =
+    Contains fixed_words (word, commands) ⊎ (Contains modes (word, commands) ⊎ (IsComment word commands ⊎ (IsSelection word commands ⊎ IsOperation last word commands)))

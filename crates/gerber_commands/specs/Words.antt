@@ -1,6 +1,6 @@
 -- What a word spells: the rows of its table, in their order (docs/FORMATS.md, Words; How a row fits and is read).
 use Rattle.std.specs.Prelude.{ℕ, Bool, true, false, not, ◌&&◌, ◌||◌, ◌==◌, nat_le, List, [], ◌∷◌, ◌++◌, length, drop, if◌then◌else◌, Option, None, Some, unwrap_or, is_some, Result, Ok, Err, is_ok, codes, ℤ}
-use Rattle.std.specs.Option.{option_map, option_or}
+use Rattle.std.specs.Option.{ok_or, option_map, option_or}
 use Rattle.std.specs.List.{list_any, list_all, prefix_len, take_while}
 use Rattle.std.specs.Str.{bytes_eq}
 use Rattle.grid_units.specs.Results.{◌>>=◌, both}
@@ -106,17 +106,15 @@ coordinate (Some run) = int_of run >>= λ n. Ok (Some n)
 -- `D01`, the only operation that may have the offsets I and J (Gerber format, Operations D01, D02, D03)
 abbrev pub is_plot : Action → Bool
 is_plot Plot = true
-is_plot Move = false
-is_plot Flash = false
+is_plot _ = false
 
--- the operation of a D code, BadWord for a move or flash with an offset I or J (Gerber format, Operations D01, D02, D03)
-abbrev pub action_with : Bool → ℕ → Result Action Reason
-action_with offsets n = action n >>= λ what. if offsets && not (n == 1) then Err BadWord else Ok what
+-- the operation by the digits of its D code; without a D code the last one again, where it is repeated (Gerber format, Coordinate data without operation code)
+abbrev pub named_action : Option (List ℕ) → Option Action → Result Action Reason
+named_action digits last = unwrap_or (option_map (λ run. nat_of run >>= action) digits) (ok_or last BareCoordinate)
 
--- the operation by the digits of its D code; without a D code it continues a plot (Gerber format, Coordinate data without operation code)
-unfoldable pub kind : Bool → Bool → Option (List ℕ) → Result Action Reason
-kind plotting offsets None = if plotting then Ok Plot else Err BareCoordinate
-kind plotting offsets (Some digits) = nat_of digits >>= action_with offsets
+-- the operation of a word, BadWord for a move or flash with an offset I or J (Gerber format, Operations D01, D02, D03)
+unfoldable pub kind : Option Action → Bool → Option (List ℕ) → Result Action Reason
+kind last offsets digits = named_action digits last >>= λ what. if offsets && not (is_plot what) then Err BadWord else Ok what
 
 -- the fields of an operation: the run of each letter that stands, and the bytes left over
 pub record Fields : Type 0 where
@@ -151,16 +149,16 @@ abbrev pub has_offsets : Fields → Bool
 has_offsets f = is_some f.i || is_some f.j
 
 -- the values of X and Y, of I and J, and the operation; or the first reason in the reading order
-unfoldable pub operands : Bool → Fields → Result (((Option ℤ × Option ℤ) × (Option ℤ × Option ℤ)) × Action) Reason
-operands plotting f = both (both (both (coordinate f.x) (coordinate f.y)) (both (coordinate f.i) (coordinate f.j))) (kind plotting (has_offsets f) f.d)
+unfoldable pub operands : Option Action → Fields → Result (((Option ℤ × Option ℤ) × (Option ℤ × Option ℤ)) × Action) Reason
+operands last f = both (both (both (coordinate f.x) (coordinate f.y)) (both (coordinate f.i) (coordinate f.j))) (kind last (has_offsets f) f.d)
 
 -- the commands of these fields: the Mode, if the word names one, and the Operate (Gerber format, Operations D01, D02, D03)
-unfoldable pub operate : Bool → Option Interpolation → Fields → Meaning
-operate plotting mode f = operands plotting f >>= λ r. Ok (modes_of mode ++ Operate r.1 r.0.0.0 r.0.0.1 r.0.1.0 r.0.1.1 ∷ [])
+unfoldable pub operate : Option Action → Option Interpolation → Fields → Meaning
+operate last mode f = operands last f >>= λ r. Ok (modes_of mode ++ Operate r.1 r.0.0.0 r.0.0.1 r.0.1.0 r.0.1.1 ∷ [])
 
 -- an operation, optionally after an interpolation: `G01X10Y20D01`, `X5D03` (Gerber format, Operations D01, D02, D03)
-unfoldable pub operation_row : Bool → List ℕ → Row
-operation_row plotting text = if is_operation (fields (split_mode text).1) then Some (operate plotting (split_mode text).0 (fields (split_mode text).1)) else None
+unfoldable pub operation_row : Option Action → List ℕ → Row
+operation_row last text = if is_operation (fields (split_mode text).1) then Some (operate last (split_mode text).0 (fields (split_mode text).1)) else None
 
 -- ---- `M02`, `M2`; `M00`, `M01`, `N`
 
@@ -175,23 +173,23 @@ deprecated_row text = if bytes_eq text (codes "M00") || (bytes_eq text (codes "M
 -- ---- the table
 
 -- the rows of words after that of comments
-abbrev pub words_after_comment : Bool → List ℕ → List Row
-words_after_comment plotting text =
+abbrev pub words_after_comment : Option Action → List ℕ → List Row
+words_after_comment last text =
     mode_row text
     ∷ quadrant_row text
     ∷ region_row text
     ∷ unit_row text
     ∷ incremental_row text
     ∷ select_row text
-    ∷ operation_row plotting text
+    ∷ operation_row last text
     ∷ finish_row text
     ∷ deprecated_row text
     ∷ []
 
 -- all rows of words
-abbrev pub words : Bool → List ℕ → List Row
-words plotting text = no_effect_row text ∷ comment_row text ∷ words_after_comment plotting text
+abbrev pub words : Option Action → List ℕ → List Row
+words last text = no_effect_row text ∷ comment_row text ∷ words_after_comment last text
 
--- A word without its `*`, given whether the last operation before it is a plot. A word with a `%` is BadWord.
-unfoldable pub word : Bool → List ℕ → Meaning
-word plotting text = if list_any (λ b. b == ascii.percent) text then Err BadWord else first_match (words plotting text)
+-- A word without its `*`, given the last operation, where coordinates alone repeat it. A word with a `%` is BadWord.
+unfoldable pub word : Option Action → List ℕ → Meaning
+word last text = if list_any (λ b. b == ascii.percent) text then Err BadWord else first_match (words last text)

@@ -1,18 +1,19 @@
 //! Definitions of apertures and of macros, as `ADD10C,0.5` and `AMDONUT*1,1,0.5,0,0`.
 
-ghost use Rattle.std.specs.Prelude.{◌≡◌, ◌≤◌, ◌<◌, ◌+◌, ◌==◌, ◌||◌, ◌&&◌, nat_le, length, map, position, count_by, IfOk, IfSome, ◌∷◌};
+ghost use Rattle.std.specs.Prelude.{◌≡◌, ◌≤◌, ◌<◌, ◌+◌, ◌==◌, ◌||◌, ◌&&◌, nat_le, length, map, count_by, IfOk};
 ghost use Rattle.std.specs.List.{list_all};
 ghost use Rattle.std.specs.Option.{option_copied};
 ghost use Rattle.grid_units.specs.Numbers.{is_number_char, parse_decimal};
 ghost use Rattle.grid_units.specs.Results.{Gives};
 ghost use Rattle.gerber_commands.specs.declared.command.Template.TheVariants.{Named};
 ghost use Rattle.gerber_commands.specs.Inner.Parameters.{with_size};
-ghost use Rattle.gerber_commands.specs.Pieces.{split_by, split_by_if, is_name_start, is_name_byte, is_name, standard_template, min_sizes, max_sizes, all_values, are_sizes, sizes_of, aperture_number, define_standard, define_named, define_template, before_comma, after_comma, define, definition, macro_definition};
+ghost use Rattle.gerber_commands.specs.Pieces.{is_name_start, is_name_byte, is_name, standard_template, min_sizes, max_sizes, all_values, are_sizes, sizes_of, aperture_number, define_standard, define_named, define_template, before_comma, after_comma, define, definition, macro_definition};
+ghost use Rattle.grid_units.specs.Rows.{split_by, split_by_if};
 
 use crate::command::{Boxed, Command, ItemCommands, Pieces, Sizes, Standard, Template};
 use crate::number::read_nat;
 use grid_units::numbers::{digit_run_len, is_digit, is_number_char, len_before};
-use grid_units::{Dec, ItemFail, Reason, Text, both};
+use grid_units::{Dec, ItemFail, Reason, Text, both, split_first};
 use std::alloc::{AllocError, Global};
 
 /// Whether a name may begin with this byte.
@@ -78,24 +79,6 @@ pub fn max_sizes(aperture: Standard) -> usize
         Standard::Circle => 3,
         Standard::Rectangle | Standard::Obround => 4,
         Standard::Polygon => 5,
-    }
-}
-
-/// The offset of the first byte that divides a text.
-fn separator_at(at: u8, text: &[u8]) -> Option<usize>
-    ensures { result ≡ position (λ b. b == at) text.now }
-{
-    text.iter().position(|byte| *byte == at)
-}
-
-/// The first part of a text, and what follows the byte that divides it.
-pub(crate) fn split_first(at: u8, text: &[u8]) -> (&[u8], Option<&[u8]>)
-    ensures parts { split_by at text.now ≡ result.0.now ∷ split_by_if at (option_copied result.1) }
-    ensures shorter { IfSome result.1 (λ rest. length rest.now < length text.now) }
-{
-    match separator_at(at, text) {
-        Some(i) => (&text[..i], Some(&text[i + 1..])),
-        None => (text, None),
     }
 }
 

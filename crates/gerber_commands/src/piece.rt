@@ -1,17 +1,17 @@
 //! Extended items: the rows of the table of pieces, in its order.
 
-ghost use Rattle.std.specs.Prelude.{◌≡◌, ◌==◌, ◌||◌, ◌&&◌, ℤ, not, is_some, unwrap_or, [], ◌++◌, IfSome, IfNone, codes, map, true, false};
+ghost use Rattle.std.specs.Prelude.{◌≡◌, ◌==◌, ◌||◌, ◌&&◌, not, is_some, [], IfSome, IfNone, codes, map, true, false};
 ghost use Rattle.std.specs.Str.{bytes_eq};
 ghost use Rattle.std.specs.List.{list_all};
-ghost use Rattle.std.specs.Option.{option_copied, option_map};
+ghost use Rattle.std.specs.Option.{option_copied};
 ghost use Rattle.grid_units.specs.Results.{Gives};
 ghost use Rattle.grid_units.specs.Numbers.{is_number_char, is_digit};
-ghost use Rattle.grid_units.specs.Rows.{strip_prefix};
+ghost use Rattle.grid_units.specs.Rows.{strip_prefix, split_by};
 ghost use Rattle.gerber_commands.specs.Rows.{first_match};
 ghost use Rattle.gerber_commands.specs.Profiles.{extended_in, piece_among, spelled_in_turn, wide_piece, wide_pieces};
-ghost use Rattle.gerber_commands.specs.Pieces.{refused_format_row, format, format_fields, format_row, unit_piece_row, polarity_row, mirror_row, run_after, turn, scale, transform_row, block_fields, repeat, repeat_start, repeat_row, file_attribute, attribute, removal, is_omitted_or, is_zero_rotation, axes_equal, has_no_effect, no_effect_piece_row, neutral_axes_row, negative_row, deprecated_piece_row, block_aperture_row, deprecated_pieces, pieces_from_attributes, pieces_from_polarity, has_several_pieces, last_byte, before_last, pieces, piece, extended_meaning, split_by};
+ghost use Rattle.gerber_commands.specs.Pieces.{refused_format_row, format, format_fields, format_row, unit_piece_row, polarity_row, mirror_row, run_after, turn, scale, transform_row, block_fields, repeat, repeat_start, repeat_row, file_attribute, attribute, removal, is_omitted_or, is_zero_rotation, axes_equal, has_no_effect, no_effect_piece_row, neutral_axes_row, negative_row, deprecated_piece_row, block_aperture_row, deprecated_pieces, pieces_from_attributes, pieces_from_polarity, has_several_pieces, last_byte, before_last, pieces, piece, extended_meaning};
 
-use crate::aperture::{read_define, read_macro, split_first};
+use crate::aperture::{read_define, read_macro};
 use crate::command::{
     AttributeKind, Command, Format, ItemCommands, ItemRow, StepRepeat, item_answer,
 };
@@ -19,7 +19,7 @@ use crate::fields::{digits_field, number_field, strip_prefix};
 use crate::negative::{contains, is_negative_image};
 use crate::number::read_nat;
 use grid_units::numbers::{is_digit, is_number_char};
-use grid_units::{Dec, ItemFail, Profile, Reason, Text, Unit, both};
+use grid_units::{Dec, ItemFail, Profile, Reason, Text, Unit, both, split_first};
 use std::alloc::Global;
 
 /// Refuses trailing zeros left out (`FST`) and incremental coordinates (`FSLI`).

@@ -6,7 +6,7 @@ ghost use Rattle.std.specs.Option.{option_copied, option_map};
 ghost use Rattle.grid_units.specs.Results.{both, Gives};
 ghost use Rattle.grid_units.specs.Numbers.{is_digit};
 ghost use Rattle.gerber_commands.specs.Negative.{is_negative_image, is_negative_comment};
-ghost use Rattle.gerber_commands.specs.Words.{no_effect_row, comment, split_mode, mode_row, quadrant_row, region_row, unit_row, incremental_row, action, digits_after, d_word, g54_word, select_row, coordinate, action_with, kind, fields, is_action_code, is_operation, has_offsets, operands, operate, operation_row, finish_row, deprecated_row, words_after_comment, word};
+ghost use Rattle.gerber_commands.specs.Words.{no_effect_row, comment, split_mode, mode_row, quadrant_row, region_row, unit_row, incremental_row, action, digits_after, d_word, g54_word, select_row, coordinate, kind, fields, is_action_code, is_operation, has_offsets, operands, operate, operation_row, finish_row, deprecated_row, words_after_comment, word};
 ghost use Rattle.gerber_commands.specs.Rows.{first_match};
 ghost use Rattle.gerber_commands.specs.Inner.Runs.{fields_of};
 
@@ -198,24 +198,16 @@ fn coordinate_of(run: Option<&[u8]>) -> Result<OptionalInteger, Reason>
     }
 }
 
-/// The operation of a word with coordinates. Without a D code it continues a plot.
+/// The operation of a word with coordinates. Without a D code it repeats the last one. Only a plot may have offsets.
 #[tactic(auto, unfolding(crate::specs::Words::kind))]
-fn word_action(plotting: bool, offsets: bool, digits: Option<&[u8]>) -> Result<Action, Reason>
-    ensures { result ≡ kind plotting offsets (option_copied digits.entry) }
+fn word_action(last: Option<Action>, offsets: bool, digits: Option<&[u8]>) -> Result<Action, Reason>
+    ensures { result ≡ kind last offsets (option_copied digits.entry) }
 {
-    match digits {
-        None if plotting => Ok(Action::Plot),
-        None => Err(Reason::BareCoordinate),
-        Some(digits) => action_with(offsets, read_nat(digits)?),
-    }
-}
-
-/// The operation of a D code beside coordinates. Only a plot may have offsets.
-fn action_with(offsets: bool, number: u32) -> Result<Action, Reason>
-    ensures { result ≡ action_with offsets number }
-{
-    let action = action_of(number)?;
-    if offsets && number != 1 {
+    let action = match digits {
+        Some(digits) => action_of(read_nat(digits)?)?,
+        None => last.ok_or(Reason::BareCoordinate)?,
+    };
+    if offsets && !matches!(action, Action::Plot) {
         Err(Reason::BadWord)
     } else {
         Ok(action)
@@ -290,36 +282,36 @@ fn has_offsets(f: &Runs<'_>) -> bool
 
 /// The values of these fields, or the first reason in the reading order.
 #[tactic(auto, unfolding(crate::specs::Words::operands))]
-fn read_operands(plotting: bool, f: &Runs<'_>) -> Result<Operands, Reason>
-    ensures { result ≡ operands plotting (fields_of f.now) }
+fn read_operands(last: Option<Action>, f: &Runs<'_>) -> Result<Operands, Reason>
+    ensures { result ≡ operands last (fields_of f.now) }
 {
     let point = both(coordinate_of(f.x), coordinate_of(f.y));
     let coordinates = both(point, both(coordinate_of(f.i), coordinate_of(f.j)));
-    both(coordinates, word_action(plotting, has_offsets(f), f.d))
+    both(coordinates, word_action(last, has_offsets(f), f.d))
 }
 
 /// The interpolation, if there is one, and the operation of these fields.
 #[tactic(auto, unfolding(crate::specs::Words::operate))]
 fn read_operate(
-    plotting: bool,
+    last: Option<Action>,
     mode: Option<Interpolation>,
     f: &Runs<'_>,
 ) -> Result<ItemCommands, Reason>
-    ensures { result ≡ operate plotting mode (fields_of f.now) }
+    ensures { result ≡ operate last mode (fields_of f.now) }
 {
-    let (((x, y), (i, j)), action) = read_operands(plotting, f)?;
+    let (((x, y), (i, j)), action) = read_operands(last, f)?;
     Ok(ItemCommands::both(mode, Command::Operate { action, x, y, i, j }))
 }
 
 /// Reads an operation, optionally after an interpolation, as `G01X10Y20D01`.
 #[tactic(auto, unfolding(crate::specs::Words::operation_row))]
-fn read_operation(plotting: bool, text: &[u8]) -> ItemRow
-    ensures { result ≡ operation_row plotting text.now }
+fn read_operation(last: Option<Action>, text: &[u8]) -> ItemRow
+    ensures { result ≡ operation_row last text.now }
 {
     let (mode, rest) = split_mode(text);
     let f = fields(rest);
     if is_operation(&f) {
-        Some(read_operate(plotting, mode, &f))
+        Some(read_operate(last, mode, &f))
     } else {
         None
     }
@@ -348,8 +340,8 @@ fn read_deprecated(text: &[u8]) -> ItemRow
 }
 
 /// Reads the rows after that of comments, in their order.
-fn read_after_comment(plotting: bool, text: &[u8]) -> Result<ItemCommands, Reason>
-    ensures { result ≡ first_match (words_after_comment plotting text.now) }
+fn read_after_comment(last: Option<Action>, text: &[u8]) -> Result<ItemCommands, Reason>
+    ensures { result ≡ first_match (words_after_comment last text.now) }
 {
     if let Some(answer) = read_mode(text) {
         answer
@@ -363,7 +355,7 @@ fn read_after_comment(plotting: bool, text: &[u8]) -> Result<ItemCommands, Reaso
         answer
     } else if let Some(answer) = read_select(text) {
         answer
-    } else if let Some(answer) = read_operation(plotting, text) {
+    } else if let Some(answer) = read_operation(last, text) {
         answer
     } else if let Some(answer) = read_finish(text) {
         answer
@@ -374,10 +366,10 @@ fn read_after_comment(plotting: bool, text: &[u8]) -> Result<ItemCommands, Reaso
     }
 }
 
-/// Reads a word without its `*`, given whether the last operation before it is a plot.
+/// Reads a word without its `*`, given the last operation, where coordinates alone repeat it.
 #[tactic(auto, unfolding(crate::specs::Words::word))]
-pub fn read_word(alloc: Global, plotting: bool, text: &[u8]) -> Result<ItemCommands, ItemFail>
-    ensures { Gives result (word plotting text.now) }
+pub fn read_word(alloc: Global, last: Option<Action>, text: &[u8]) -> Result<ItemCommands, ItemFail>
+    ensures { Gives result (word last text.now) }
 {
     if contains(text, b'%') {
         Err(ItemFail::Refused(Reason::BadWord))
@@ -386,6 +378,6 @@ pub fn read_word(alloc: Global, plotting: bool, text: &[u8]) -> Result<ItemComma
     } else if let Some(comment) = strip_prefix(b"G04", text) {
         read_comment(alloc, comment)
     } else {
-        item_answer(read_after_comment(plotting, text))
+        item_answer(read_after_comment(last, text))
     }
 }

@@ -3,7 +3,7 @@
 use crate::texts::layer_of;
 use grid_units::{Point, Profile};
 use layer_image::{Feature, FeatureKind, Keep};
-use pad_shapes::{PlacedRounded, Rounded, WidePad};
+use pad_shapes::{PlacedRounded, Rounded};
 use std::alloc::Global;
 
 /// A pad: its radius, and its corners in µm.
@@ -339,7 +339,7 @@ fn is_pad(found: &Rounded, &(radius, corners): &Pad) -> bool {
 /// The rounded polygon of a flash of a macro or of a contour.
 fn rounded(what: &FeatureKind) -> Option<&PlacedRounded> {
     match what {
-        FeatureKind::Pad(WidePad::Rounded(pad)) | FeatureKind::Contour(pad) => Some(pad),
+        FeatureKind::Shape(pad, _) | FeatureKind::Contour(pad) => Some(pad),
         _ => None,
     }
 }

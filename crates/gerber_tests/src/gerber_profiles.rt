@@ -132,18 +132,18 @@ fn is_rewritten(alloc: Global, profile: Profile, text: &[u8], wanted: &[u8]) -> 
     }
 }
 
-/// A text that has no clear polarity has the same commands in both profiles; clear polarity is written as it is read.
+/// A text of the strict profile has the same commands in both; clear polarity is written as it is read, and what is repeated with its D code.
 #[test]
 fn commands_of_both_profiles(rt: HostRuntime) {
-    let alloc = rt.alloc();
     let text = b"G04 a*%FSLAX24Y24*%%MOMM*%%ADD010C,.05*%G75*G01X+01000Y0D2*D10*%LPD*%%LR90.0*%M2*";
     let lines =
         b"G04 a*\n%FSLAX24Y24*%\n%MOMM*%\n%ADD10C,0.05*%\nG75*\nG01*\nX1000Y0D02*\nD10*\n%LPD*%\n%LR90*%\nM02*\n";
     for profile in [Profile::Strict, Profile::Wide] {
-        assert!(rt; is_rewritten(alloc, profile, text, lines));
+        assert!(rt; is_rewritten(rt.alloc(), profile, text, lines));
     }
-    let clear = b"%LPC*%\n%LPD*%\nM02*\n";
-    assert!(rt; is_rewritten(alloc, Profile::Wide, b"%LPC*%%LPD*%M2*", clear));
+    let text = b"%LPC*%%LPD*%X1Y1D3*X2*X3D2*Y3*M2*";
+    let lines = b"%LPC*%\n%LPD*%\nX1Y1D03*\nX2D03*\nX3D02*\nY3D02*\nM02*\n";
+    assert!(rt; is_rewritten(rt.alloc(), Profile::Wide, text, lines));
 }
 
 /// Several pieces in one pair of `%` spell what each spells alone, at the place and the byte of the item.

@@ -147,8 +147,8 @@ fn layer_text(alloc: Global, body: &[u8]) -> Option<Vec<u8>> {
 /// The letter of a flash or contour.
 fn letter(what: &FeatureKind) -> u8 {
     match what {
-        FeatureKind::Pad(WidePad::Plain(_)) => b'p',
-        FeatureKind::Pad(WidePad::Rounded(_)) => b'm',
+        FeatureKind::Pad(_) => b'p',
+        FeatureKind::Shape(_, _) => b'm',
         FeatureKind::Contour(_) => b'c',
         FeatureKind::Other(_) | FeatureKind::Macro(_) => b'o',
         FeatureKind::Clear => b'l',

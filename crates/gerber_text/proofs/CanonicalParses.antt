@@ -1,5 +1,5 @@
 -- The canonical item of a sayable command spells just it, since it is so written.
-use Rattle.gerber_text.proofs.Common.{◌≡◌, inl, inr, ℕ, Bool, true, false, not, eqb, leb, List, [], ◌∷◌, length, refl, ap, ◌∙◌, arith, codes, decimal, leb-true, Inch, Millimetre, Strict, item_limit, both_true, not_true, list_all_weaker, digits_numbers, Command, Comment, Mode, Quadrant, RegionStart, RegionEnd, UnitIs, FormatIs, Define, Macro, Select, Operate, Dark, Clear, Mirror, Turn, Scale, Repeat, RepeatEnd, Attribute, Remove, Finish, Linear, Clockwise, Counterclockwise, Single, Multi, canonical, is_negative_comment, is_negative_image, IsWord, SpellsOne, IsPlain, is_not_break, without_breaks, Spells, IsItemIn, is_text_byte, is_text, is_nat, has_valid_fields, is_short, is_sayable}
+use Rattle.gerber_text.proofs.Common.{◌≡◌, inl, inr, ℕ, true, false, not, eqb, leb, Option, None, List, [], ◌∷◌, length, refl, ap, ◌∙◌, arith, codes, decimal, leb-true, Inch, Millimetre, Strict, item_limit, both_true, not_true, list_all_weaker, digits_numbers, Action, Command, Comment, Mode, Quadrant, RegionStart, RegionEnd, UnitIs, FormatIs, Define, Macro, Select, Operate, Dark, Clear, Mirror, Turn, Scale, Repeat, RepeatEnd, Attribute, Remove, Finish, Linear, Clockwise, Counterclockwise, Single, Multi, canonical, is_negative_comment, is_negative_image, IsWord, SpellsOne, IsPlain, is_not_break, without_breaks, Spells, IsItemIn, is_text_byte, is_text, is_nat, has_valid_fields, is_short, is_sayable, repeated_in}
 use Rattle.grid_units.specs.Spellings.{canonical as canonical_dec}
 use Rattle.gerber_commands.specs.declared.command.AttributeKind.TheVariants as kinds
 use Rattle.gerber_text.proofs.GrammarItems.{item_means}
@@ -11,13 +11,13 @@ use Rattle.gerber_text.proofs.PieceLemmas.{format_text, format_written, format_w
 
 -- the canonical item of a command without its line breaks is so written
 abbrev IsWritten : Command → Type 0
-IsWritten c = (plotting : Bool) → IsItemIn Strict plotting (without_breaks (canonical c)) (c ∷ [])
+IsWritten c = (latest : Option Action) → IsItemIn Strict latest (without_breaks (canonical c)) (c ∷ [])
 
-word_written : (c : Command) (w : List ℕ) → canonical c ≡ word_item w → is_text w ≡ true → ((plotting : Bool) → IsWord plotting w (c ∷ [])) → IsWritten c
-word_written c w whole h written plotting = inl (w, ap without_breaks whole ∙ word_unbroken w h, none_passes is_text_byte (λ b. eqb b 42) text_no_star w h, written plotting)
+word_written : (c : Command) (w : List ℕ) → canonical c ≡ word_item w → is_text w ≡ true → ((repeated : Option Action) → IsWord repeated w (c ∷ [])) → IsWritten c
+word_written c w whole h written latest = inl (w, ap without_breaks whole ∙ word_unbroken w h, none_passes is_text_byte (λ b. eqb b 42) text_no_star w h, written (repeated_in Strict latest))
 
 piece_written : (c : Command) (t : List ℕ) → canonical c ≡ piece_item t → is_text t ≡ true → IsPlain t (c ∷ []) → IsWritten c
-piece_written c t whole h written plotting =
+piece_written c t whole h written latest =
     let percent = none_passes is_text_byte (λ b. eqb b 37) text_no_percent t h in
     let star = none_passes is_text_byte (λ b. eqb b 42) text_no_star t h in
     inr (t, ap without_breaks whole ∙ piece_unbroken t (list_all_weaker is_text_byte is_not_break text_kept t h), percent, inr (star, written))
@@ -48,7 +48,7 @@ kind_written (Select n) h =
     let k = both_true (leb 10 n) (is_nat n) h in
     let d = nat_is n k.1 in
     word_written (Select n) (68 ∷ decimal n) refl (numbers_text (decimal n) (digits_numbers (decimal n) d.digits)) (λ _. inr (inr (inr (inl (decimal n, n, inl refl, d.reads, leb-true 10 n k.0, refl)))))
-kind_written (Operate a x y i j) h = let o = operation_written a x y i j h in word_written (Operate a x y i j) (operation_text a x y i j) (operation_whole a x y i j) o.1 (λ plotting. inr (inr (inr (inr (o.0 plotting)))))
+kind_written (Operate a x y i j) h = let o = operation_written a x y i j h in word_written (Operate a x y i j) (operation_text a x y i j) (operation_whole a x y i j) o.1 (λ repeated. inr (inr (inr (inr (o.0 repeated)))))
 kind_written Dark h = piece_written Dark (codes "LPD") refl refl (inl (2, omega arith, refl))
 kind_written Clear h = absurd cc
 kind_written (Mirror false false) h = piece_written (Mirror false false) (codes "LMN") refl refl (inl (4, omega arith, refl))
@@ -69,5 +69,5 @@ pub parses : (c : Command) → is_sayable c ≡ true → Spells (canonical c) c
 parses c h =
     let k = both_true (has_valid_fields c) (is_short c) h in
     let item = without_breaks (canonical c) in
-    let means = λ (plotting : Bool). item_means Strict plotting item (c ∷ []) (kind_written c k.0 plotting) in
-    record { one = (means false).0; short = leb-true (length item) item_limit k.1; parses = λ plotting. (means plotting).1 }
+    let means = λ (latest : Option Action). item_means Strict latest item (c ∷ []) (kind_written c k.0 latest) in
+    record { one = (means None).0; short = leb-true (length item) item_limit k.1; parses = λ latest. (means latest).1 }

@@ -1,5 +1,5 @@
 -- Operations that are written as most are: `G01X10Y20D01*`.
-use Rattle.gerber_text.proofs.Common.{◌≡◌, inl, inr, ℕ, zero, suc, ◌+◌, ◌-◌, ◌<◌, ◌≤◌, Bool, true, false, cond, eqb, ◌||◌, List, [], ◌∷◌, ◌++◌, length, take, drop, get_or, Option, None, Some, Result, Ok, refl, sym, ap, subst, ◌∙◌, arith, neg_ℤ, IfSome, option_map, list_all, list_any, AllByRecursion, false≢true, length-append, length-take, take-append-drop, take_all, take-append_seam, ◌>>=◌, is_digit, is_number_char, value, without_sign, is_negative, Reason, Profile, Strict, Command, Operate, Interpolation, Linear, Clockwise, Counterclockwise, Action, Plot, Move, Flash, int_of, modes_of, action_code, coordinate, is_plot, NamesInt, is_not_break, HasLeadingOperation, HasLeadingInt, HasLeadingCoordinate, coordinate_field, mode_prefix, IsItemIn, is_line_break, is_text_byte, is_finish, and_true, both_true, not_true, list_all_weaker, list_all_append, bind_ok}
+use Rattle.gerber_text.proofs.Common.{◌≡◌, inl, inr, ℕ, zero, suc, ◌+◌, ◌-◌, ◌<◌, ◌≤◌, Bool, true, false, cond, eqb, ◌||◌, List, [], ◌∷◌, ◌++◌, length, take, drop, get_or, Option, None, Some, Result, Ok, refl, sym, ap, subst, ◌∙◌, arith, neg_ℤ, IfSome, option_map, list_all, list_any, AllByRecursion, false≢true, length-append, length-take, take-append-drop, take_all, take-append_seam, ◌>>=◌, is_digit, is_number_char, value, without_sign, is_negative, Reason, Profile, Strict, Command, Operate, Interpolation, Linear, Clockwise, Counterclockwise, Action, Plot, Move, Flash, int_of, modes_of, action_code, coordinate, is_plot, NamesInt, is_not_break, HasLeadingOperation, HasLeadingInt, HasLeadingCoordinate, coordinate_field, mode_prefix, IsItemIn, is_line_break, is_text_byte, is_finish, and_true, both_true, not_true, list_all_weaker, list_all_append, bind_ok, repeated_in}
 use Rattle.std.specs.Prelude.{ℤ, pos, is_some, not}
 use Rattle.gerber_text.proofs.GrammarItems.{item_means, item_ends}
 use Rattle.gerber_text.proofs.ItemLemmas.{text_kept, text_no_star}
@@ -137,14 +137,14 @@ plain_item bytes after_m after_x after_y after_i rest more m v w s t action fron
     let word = operation_word m x y i j action in
     let text = word_bytes m x y i j action (are_numbers x hx.numbers) (are_numbers y hy.numbers) (are_numbers i hi.numbers) (are_numbers j hj.numbers) in
     let is : take (length bytes - length rest + 4) bytes ≡ word ++ 42 ∷ [] = prefix ∙ word_ends m x y i j action in
-    let written : (profile : Profile) (plotting : Bool) → IsItemIn profile plotting (take (length bytes - length rest + 4) bytes) what =
-    λ profile plotting. inl (word, is, none_passes is_text_byte (λ b. eqb b 42) text_no_star word text, inr (inr (inr (inr (word_written plotting m x y i j action v w s t (value_named x v hx.value_is) (value_named y w hy.value_is) (value_named i s hi.value_is) (value_named j t hj.value_is) may))))) in
+    let written : (profile : Profile) (latest : Option Action) → IsItemIn profile latest (take (length bytes - length rest + 4) bytes) what =
+    λ profile latest. inl (word, is, none_passes is_text_byte (λ b. eqb b 42) text_no_star word text, inr (inr (inr (inr (word_written (repeated_in profile latest) m x y i j action v w s t (value_named x v hx.value_is) (value_named y w hy.value_is) (value_named i s hi.value_is) (value_named j t hj.value_is) may))))) in
     record {
       some = omega (arith, len, size);
       within = omega (arith, len, ap length whole, length-append item more);
       short = omega (arith, len, size, front_long m, hx.short, hy.short, hi.short, hj.short);
-      one = (item_means Strict false _ what (written Strict false)).0;
+      one = (item_means Strict None _ what (written Strict None)).0;
       kept = none_breaks _ (ap (list_all is_not_break) is ∙ list_all_append is_not_break word (42 ∷ []) (list_all_weaker is_text_byte is_not_break text_kept word text) refl);
-      goes_on = sym (item_ends Strict false _ what (written Strict false)) ∙ goes_on m action v w s t;
-      parses = λ profile plotting. (item_means profile plotting _ what (written profile plotting)).1;
+      goes_on = sym (item_ends Strict None _ what (written Strict None)) ∙ goes_on m action v w s t;
+      parses = λ profile latest. (item_means profile latest _ what (written profile latest)).1;
     }

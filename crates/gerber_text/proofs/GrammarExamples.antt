@@ -1,5 +1,5 @@
 -- Texts that are written for these commands, or for none.
-use Rattle.gerber_text.proofs.Common.{◌≡◌, ◌≢◌, inl, inr, ℕ, Bool, true, List, [], ◌∷◌, ◌++◌, pos, Some, None, Ok, Err, refl, arith, codes, All-from_recursion, parse_decimal, Millimetre, Command, UnitIs, FormatIs, Define, Select, Operate, Clear, Finish, Flash, Rectangle, Strict, Wide, int_of, nat_of, may_follow, no_effect_row, split_mode, mode_row, quadrant_row, region_row, unit_row, incremental_row, select_row, fields, operation_row, finish_row, word, IsItemIn, IsTextIn, IsItem, meaning_in, spelled_in, ReadsIn, fault, AfterEnd}
+use Rattle.gerber_text.proofs.Common.{◌≡◌, ◌≢◌, inl, inr, ℕ, true, Option, List, [], ◌∷◌, ◌++◌, pos, Some, None, Ok, Err, refl, arith, codes, All-from_recursion, parse_decimal, Millimetre, Action, Command, UnitIs, FormatIs, Define, Select, Operate, Clear, Finish, Flash, Rectangle, Strict, Wide, int_of, nat_of, may_follow, no_effect_row, split_mode, mode_row, quadrant_row, region_row, unit_row, incremental_row, select_row, fields, operation_row, finish_row, word, IsItemIn, IsTextIn, IsItem, meaning_in, spelled_in, ReadsIn, fault, AfterEnd}
 use Rattle.gerber_commands.specs.declared.command.Template.TheVariants as templates
 use Rattle.gerber_commands.proofs.PieceExamples.{format, millimetres}
 use Rattle.gerber_text.proofs.ItemLemmas.{word_is_item}
@@ -41,24 +41,24 @@ clear_text = record {
 
 -- ---- a layer that flashes a square of 0.65 mm
 
-format_item : (plotting : Bool) → IsItemIn Strict plotting (codes "%FSLAX46Y46*%") (FormatIs (record { whole = 4; decimals = 6 }) ∷ [])
-format_item plotting = inr (codes "FSLAX46Y46", refl, refl, format)
+format_item : (latest : Option Action) → IsItemIn Strict latest (codes "%FSLAX46Y46*%") (FormatIs (record { whole = 4; decimals = 6 }) ∷ [])
+format_item latest = inr (codes "FSLAX46Y46", refl, refl, format)
 
-unit_item : (plotting : Bool) → IsItemIn Strict plotting (codes "%MOMM*%") (UnitIs Millimetre ∷ [])
-unit_item plotting = inr (codes "MOMM", refl, refl, millimetres)
+unit_item : (latest : Option Action) → IsItemIn Strict latest (codes "%MOMM*%") (UnitIs Millimetre ∷ [])
+unit_item latest = inr (codes "MOMM", refl, refl, millimetres)
 
-define_item : (plotting : Bool) → IsItemIn Strict plotting (codes "%ADD10R,0.65X0.65*%") (Define 10 (templates.Standard Rectangle (pos 65000000 ∷ pos 65000000 ∷ [])) ∷ [])
+define_item : (latest : Option Action) → IsItemIn Strict latest (codes "%ADD10R,0.65X0.65*%") (Define 10 (templates.Standard Rectangle (pos 65000000 ∷ pos 65000000 ∷ [])) ∷ [])
 unfolding nat_of parse_decimal
-define_item plotting =
+define_item latest =
     inr (codes "ADD10R,0.65X0.65", refl, refl, inr (refl, inr (inl (_, (codes "10", codes "R,0.65X0.65", refl, omega arith, (codes "R", 2, 4, codes "0.65" ∷ codes "0.65" ∷ [], (1, omega arith, refl), refl, omega arith, omega arith, refl), refl), refl))))
 
-select_item : (plotting : Bool) → IsItemIn Strict plotting (codes "D10*") (Select 10 ∷ [])
+select_item : (latest : Option Action) → IsItemIn Strict latest (codes "D10*") (Select 10 ∷ [])
 unfolding nat_of
-select_item plotting = inl (codes "D10", refl, refl, inr (inr (inr (inl (codes "10", 10, inl refl, refl, omega arith, refl)))))
+select_item latest = inl (codes "D10", refl, refl, inr (inr (inr (inl (codes "10", 10, inl refl, refl, omega arith, refl)))))
 
-flash_item : (plotting : Bool) → IsItemIn Strict plotting (codes "X0Y0D03*") (Operate Flash (Some (pos 0)) (Some (pos 0)) None None ∷ [])
+flash_item : (latest : Option Action) → IsItemIn Strict latest (codes "X0Y0D03*") (Operate Flash (Some (pos 0)) (Some (pos 0)) None None ∷ [])
 unfolding int_of nat_of
-flash_item plotting = inl (
+flash_item latest = inl (
   codes "X0Y0D03",
   refl,
   refl,
@@ -101,7 +101,7 @@ one_flash = record {
   tail = [];
   before = before;
   written = refl;
-  spelled = (_, _, refl, omega arith, format_item _, (_, _, refl, omega arith, unit_item _, (_, _, refl, omega arith, define_item _, (_, _, refl, omega arith, select_item _, (_, _, refl, omega arith, flash_item _, refl)))));
+  spelled = (_, _, refl, omega arith, format_item None, (_, _, refl, omega arith, unit_item None, (_, _, refl, omega arith, define_item None, (_, _, refl, omega arith, select_item None, (_, _, refl, omega arith, flash_item None, refl)))));
   not_ended = All-from_recursion (λ c. c ≢ Finish) before (λ e. absurd cc, (λ e. absurd cc, (λ e. absurd cc, (λ e. absurd cc, (λ e. absurd cc, tt)))));
   ends = inl refl;
   follows = All-from_recursion (λ b. may_follow b ≡ true) [] tt;

@@ -1,5 +1,5 @@
 -- Items by what they hold: the text of a word, and the text of pieces.
-use Rattle.gerber_text.proofs.Common.{◌≡◌, ◌≢◌, ℕ, ◌-◌, Bool, true, false, cond, eqb, List, [], ◌∷◌, ◌++◌, length, take, refl, sym, ap, subst, ◌∙◌, arith, append_assoc, list_all, list_any, AllByRecursion, length-append, take_at, eqb-false, nat_tests, Profile, end_byte, after_percent, IsItem, word, HasNo, extended_in, without_end, meaning_in, is_not_break, without_breaks, is_text_byte, is_text, or_is_false, list_all_weaker, list_all_append}
+use Rattle.gerber_text.proofs.Common.{◌≡◌, ◌≢◌, ℕ, ◌-◌, true, false, cond, eqb, Option, List, [], ◌∷◌, ◌++◌, length, take, refl, sym, ap, subst, ◌∙◌, arith, append_assoc, list_all, list_any, AllByRecursion, length-append, take_at, eqb-false, nat_tests, Profile, end_byte, after_percent, IsItem, word, HasNo, extended_in, repeated_in, without_end, meaning_in, is_not_break, without_breaks, is_text_byte, is_text, or_is_false, list_all_weaker, list_all_append, Action}
 use Rattle.gerber_text.proofs.RunLemmas.{kept_whole}
 
 -- ---- bytes of texts
@@ -32,12 +32,12 @@ without_end_push w x = ap (λ k. take k (w ++ x ∷ [])) (before_one w x) ∙ ta
 abbrev pub word_item : List ℕ → List ℕ
 word_item w = w ++ 42 ∷ []
 
-pub word_means : (profile : Profile) (plotting : Bool) (w : List ℕ) → HasNo 37 w → meaning_in profile plotting (word_item w) ≡ word plotting w
+pub word_means : (profile : Profile) (latest : Option Action) (w : List ℕ) → HasNo 37 w → meaning_in profile latest (word_item w) ≡ word (repeated_in profile latest) w
 unfolding meaning_in
-word_means profile plotting [] h = refl
-word_means profile plotting (b ∷ bs) h =
+word_means profile latest [] h = refl
+word_means profile latest (b ∷ bs) h =
     let k = or_is_false (eqb b 37) (list_any (λ c. eqb c 37) bs) h in
-    ap (λ t. cond t (extended_in profile (without_end (bs ++ 42 ∷ []))) (word plotting (without_end (b ∷ (bs ++ 42 ∷ []))))) k.0 ∙ ap (word plotting) (without_end_push (b ∷ bs) 42)
+    ap (λ t. cond t (extended_in profile (without_end (bs ++ 42 ∷ []))) (word (repeated_in profile latest) (without_end (b ∷ (bs ++ 42 ∷ []))))) k.0 ∙ ap (word (repeated_in profile latest)) (without_end_push (b ∷ bs) 42)
 
 pub word_is_item : (w : List ℕ) → HasNo 37 w → HasNo 42 w → IsItem (word_item w)
 word_is_item [] h k = record { prefix = []; unfinished = tt; whole = refl }
@@ -64,9 +64,9 @@ pub piece_parts : (t : List ℕ) → t ++ 42 ∷ 37 ∷ [] ≡ (t ++ 42 ∷ []) 
 piece_parts t = sym (append_assoc t (42 ∷ []) (37 ∷ []))
 
 -- what stands between the two `%` says what an item of pieces spells in the profile
-pub extended_means : (profile : Profile) (plotting : Bool) (t : List ℕ) → meaning_in profile plotting (piece_item t) ≡ extended_in profile (t ++ 42 ∷ [])
+pub extended_means : (profile : Profile) (latest : Option Action) (t : List ℕ) → meaning_in profile latest (piece_item t) ≡ extended_in profile (t ++ 42 ∷ [])
 unfolding meaning_in
-extended_means profile plotting t = ap (extended_in profile) (ap without_end (piece_parts t) ∙ without_end_push (t ++ 42 ∷ []) 37)
+extended_means profile latest t = ap (extended_in profile) (ap without_end (piece_parts t) ∙ without_end_push (t ++ 42 ∷ []) 37)
 
 no_percent_all : (t : List ℕ) → HasNo 37 t → AllByRecursion (λ b. b ≢ 37) (t ++ 42 ∷ [])
 no_percent_all [] h = (λ e. absurd (omega (arith, e)), tt)

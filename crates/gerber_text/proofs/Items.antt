@@ -1,12 +1,12 @@
 -- An item that a reader takes whole.
-use Rattle.gerber_text.proofs.Common.{◌≡◌, ℕ, suc, ◌+◌, ◌≤◌, false, List, [], ◌∷◌, ◌++◌, length, Ok, refl, sym, ap, subst, ◌∙◌, arith, append_assoc, enumerate_from, AllByRecursion, le-ltb, length-append, Profile, Command, is_line_break, end_byte, IsUnfinished, IsItem, is_end_item, meaning_in, OffsetByte, offset_bytes, bytes_of, first_offset, has_end, Splits, Entries, is_plotting, item_entries, spelled_in, shown_by, item_limit}
+use Rattle.gerber_text.proofs.Common.{◌≡◌, ℕ, suc, ◌+◌, ◌≤◌, false, List, [], ◌∷◌, ◌++◌, length, Ok, refl, sym, ap, subst, ◌∙◌, arith, append_assoc, enumerate_from, AllByRecursion, le-ltb, length-append, Profile, Command, is_line_break, end_byte, IsUnfinished, IsItem, is_end_item, meaning_in, OffsetByte, offset_bytes, bytes_of, first_offset, has_end, Splits, Entries, latest_action, item_entries, spelled_in, shown_by, item_limit}
 use Rattle.std.proofs.lemmas.List.FromFn.{length-enumerate_from}
 use Rattle.gerber_text.proofs.OffsetByteLemmas.{offset_bytes-append, offset_bytes_from-kept, bytes_of-enumerate}
 use Rattle.gerber_text.proofs.SplitsLemmas.{Splits-grow}
 use Rattle.gerber_text.proofs.ShowsLemmas.{running_ok, show_ok}
 use Rattle.gerber_text.proofs.ReaderStepLemmas.{closes}
 
-pub spelled_ok : (profile : Profile) (place byte : ℕ) (item : List ℕ) (before : Entries) (commands : List Command) → length item ≤ item_limit → meaning_in profile (is_plotting before) item ≡ Ok commands → spelled_in profile place byte item before ≡ Ok (before ++ item_entries place byte commands)
+pub spelled_ok : (profile : Profile) (place byte : ℕ) (item : List ℕ) (before : Entries) (commands : List Command) → length item ≤ item_limit → meaning_in profile (latest_action before) item ≡ Ok commands → spelled_in profile place byte item before ≡ Ok (before ++ item_entries place byte commands)
 unfolding spelled_in
 spelled_ok profile place byte item before commands le h = rw (le-ltb _ _ le, h) refl
 

@@ -1,5 +1,5 @@
 -- Comments and attributes at the start of bytes, as a search for their end finds them, and what they spell.
-use Rattle.gerber_text.proofs.Common.{◌≡◌, inl, inr, ℕ, ◌+◌, ◌≤◌, Bool, false, ◌||◌, eqb, List, [], ◌∷◌, ◌++◌, length, take, drop, All, None, Ok, refl, sym, ap, subst, ◌∙◌, arith, append_assoc, list_any, AllByRecursion, take-append_seam, length-append, length-take, take-append-drop, recursion_from_All, Profile, Strict, Attribute, Remove, Meaning, HasNo, is_line_break, IsItem, is_end_item, meaning_in, plot_of, HasLeadingText, is_negative_text, text_code, text_end, text_command, IsItemIn, IsInside}
+use Rattle.gerber_text.proofs.Common.{◌≡◌, inl, inr, ℕ, ◌+◌, ◌≤◌, false, ◌||◌, eqb, Option, List, [], ◌∷◌, ◌++◌, length, take, drop, All, None, Ok, refl, sym, ap, subst, ◌∙◌, arith, append_assoc, list_any, AllByRecursion, take-append_seam, length-append, length-take, take-append-drop, recursion_from_All, Profile, Strict, Attribute, Remove, Meaning, HasNo, is_line_break, IsItem, is_end_item, meaning_in, action_of, HasLeadingText, is_negative_text, text_code, text_end, text_command, IsItemIn, IsInside, Action}
 use Rattle.gerber_commands.specs.declared.command.AttributeKind.TheVariants as attributes
 use Rattle.gerber_text.specs.declared.text_items.LeadingText.{LeadingText}
 use Rattle.gerber_text.specs.declared.text_items.TextKind.{TextKind}
@@ -41,12 +41,12 @@ text_found bytes rest text end more found is within inside text_is end_is ends p
 abbrev pub item_of : TextKind → List ℕ → List ℕ
 item_of kind text = text_code kind ++ text ++ text_end kind
 
-item_for : (plotting : Bool) (kind : TextKind) (text : List ℕ) → HasNo 42 text → HasNo 37 text → is_negative_text kind text ≡ false → IsItemIn Strict plotting (item_of kind text) (text_command kind text ∷ [])
-item_for plotting kinds.Comment text star percent positive = inl (text_code kinds.Comment ++ text, refl, star, inr (inr (inl (text, refl, refl, positive, percent))))
-item_for plotting (kinds.Attribute attributes.File) text star percent positive = inr (84 ∷ 70 ∷ text, refl, percent, inr (star, inr (inl (Attribute attributes.File text, (refl, positive), refl))))
-item_for plotting (kinds.Attribute attributes.Aperture) text star percent positive = inr (84 ∷ 65 ∷ text, refl, percent, inr (star, inr (inl (Attribute attributes.Aperture text, refl, refl))))
-item_for plotting (kinds.Attribute attributes.Object) text star percent positive = inr (84 ∷ 79 ∷ text, refl, percent, inr (star, inr (inl (Attribute attributes.Object text, refl, refl))))
-item_for plotting kinds.Remove text star percent positive = inr (84 ∷ 68 ∷ text, refl, percent, inr (star, inr (inl (Remove text, refl, refl))))
+item_for : (latest : Option Action) (kind : TextKind) (text : List ℕ) → HasNo 42 text → HasNo 37 text → is_negative_text kind text ≡ false → IsItemIn Strict latest (item_of kind text) (text_command kind text ∷ [])
+item_for latest kinds.Comment text star percent positive = inl (text_code kinds.Comment ++ text, refl, star, inr (inr (inl (text, refl, refl, positive, percent))))
+item_for latest (kinds.Attribute attributes.File) text star percent positive = inr (84 ∷ 70 ∷ text, refl, percent, inr (star, inr (inl (Attribute attributes.File text, (refl, positive), refl))))
+item_for latest (kinds.Attribute attributes.Aperture) text star percent positive = inr (84 ∷ 65 ∷ text, refl, percent, inr (star, inr (inl (Attribute attributes.Aperture text, refl, refl))))
+item_for latest (kinds.Attribute attributes.Object) text star percent positive = inr (84 ∷ 79 ∷ text, refl, percent, inr (star, inr (inl (Attribute attributes.Object text, refl, refl))))
+item_for latest kinds.Remove text star percent positive = inr (84 ∷ 68 ∷ text, refl, percent, inr (star, inr (inl (Remove text, refl, refl))))
 
 not_end : (kind : TextKind) (text : List ℕ) → is_end_item (item_of kind text) ≡ false
 not_end kinds.Comment text = refl
@@ -96,7 +96,7 @@ pub record IsTextItem (bytes : List ℕ) (found : LeadingText) : Type 0 where
   pub one : IsItem (take found.len bytes)
   pub kept : AllByRecursion (λ b. is_line_break b ≡ false) (take found.len bytes)
   pub goes_on : is_end_item (take found.len bytes) ≡ false
-  pub parses : (profile : Profile) (plotting : Bool) → meaning_in profile plotting (take found.len bytes) ≡ Ok (text_command found.kind (take found.text_len (drop 3 bytes)) ∷ [])
+  pub parses : (profile : Profile) (latest : Option Action) → meaning_in profile latest (take found.len bytes) ≡ Ok (text_command found.kind (take found.text_len (drop 3 bytes)) ∷ [])
 
 pub text_item : (bytes : List ℕ) (found : LeadingText) → HasLeadingText bytes found → IsTextItem bytes found
 text_item bytes found h =
@@ -107,16 +107,16 @@ text_item bytes found h =
     let prefix : take found.len bytes ≡ item = (λ i. take (size i) (h.whole i)) ∙ take-append_seam item h.rest in
     let text : take found.text_len (drop 3 bytes) ≡ h.text =
     (λ i. take (sym h.long i) (drop 3 (h.whole i))) ∙ (ap (take (length h.text)) (after_three kind h.text end h.rest ∙ append_assoc h.text end h.rest) ∙ take-append_seam h.text (end ++ h.rest)) in
-    let means : (profile : Profile) (plotting : Bool) → Means profile plotting item (text_command kind h.text ∷ []) = λ profile plotting. item_means profile plotting item (text_command kind h.text ∷ []) (item_anywhere profile plotting item (text_command kind h.text ∷ []) (item_for plotting kind h.text h.no_star h.no_percent h.positive)) in
+    let means : (profile : Profile) (latest : Option Action) → Means profile latest item (text_command kind h.text ∷ []) = λ profile latest. item_means profile latest item (text_command kind h.text ∷ []) (item_anywhere profile latest item (text_command kind h.text ∷ []) (item_for latest kind h.text h.no_star h.no_percent h.positive)) in
     record {
-      one = subst IsItem (sym prefix) (means Strict false).0;
+      one = subst IsItem (sym prefix) (means Strict None).0;
       kept = subst IsKept (sym prefix) (item_kept kind h.text h.one_line);
       goes_on = ap is_end_item prefix ∙ not_end kind h.text;
-      parses = λ profile plotting. ap (meaning_in profile plotting) prefix ∙ ((means profile plotting).1 ∙ ap (spells kind) (sym text));
+      parses = λ profile latest. ap (meaning_in profile latest) prefix ∙ ((means profile latest).1 ∙ ap (spells kind) (sym text));
     }
 
 -- a text leaves the last operation as it was
-pub plots_no : (kind : TextKind) (text : List ℕ) → plot_of (text_command kind text) ≡ None
-plots_no kinds.Comment text = refl
-plots_no (kinds.Attribute which) text = refl
-plots_no kinds.Remove text = refl
+pub no_action : (kind : TextKind) (text : List ℕ) → action_of (text_command kind text) ≡ None
+no_action kinds.Comment text = refl
+no_action (kinds.Attribute which) text = refl
+no_action kinds.Remove text = refl

@@ -1,5 +1,5 @@
 pub mod Common
-pub mod PlottingLemmas
+pub mod LatestLemmas
 pub mod LeadingItemLemmas
 pub mod LeadingTextLemmas
 pub mod Items

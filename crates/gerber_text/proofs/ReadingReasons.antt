@@ -1,5 +1,5 @@
 -- A text that is refused is refused for a reason of reading.
-use Rattle.gerber_text.proofs.Common.{ℕ, suc, Bool, true, false, cond, eqb, ltb, List, [], ◌∷◌, length, drop, Option, None, Some, Result, Ok, Err, unwrap_or, sym, subst, codes, bytes_eq, AllByRecursion, list_any, prefix_len, take_while, option_map, option_or, Reason, Fault, BadWord, ClearPolarity, NegativeImage, Incremental, TrailingZeros, SeveralInOne, BadNumber, TooFine, TooFar, Inch, Millimetre, ◌>>=◌, both, with_place, is_digit, is_number_char, parse_decimal, value, whole, fraction, value_without_point, to_units, signed_value, is_decimal, fits_eight_decimals, Profile, Strict, Wide, extended_in, Quadrant, RegionStart, RegionEnd, UnitIs, Dark, Clear, Mirror, Macro, RepeatEnd, Single, Multi, Action, Plot, Move, Flash, Standard, Interpolation, int_of, nat_of, Meaning, Row, first_match, field, Fields, no_effect_row, comment, mode_row, quadrant_row, region_row, unit_row, incremental_row, action, d_word, g54_word, select_row, coordinate, action_with, kind, operands, operate, operation_row, finish_row, deprecated_row, words, word, split_by, last_byte, before_last, is_name, standard_template, are_sizes, before_comma, after_comma, has_several_pieces, refused_format_row, format_fields, format_row, unit_piece_row, all_values, sizes_of, aperture_number, define_standard, define_named, define_template, define, definition, macro_of, macro_definition, polarity_row, mirror_row, turn, scale, transform_row, block_fields, repeat, repeat_fields, repeat_start, repeat_row, file_attribute, attribute, removal, no_effect_piece_row, neutral_axes_row, negative_row, deprecated_piece_row, block_aperture_row, pieces, piece, extended_meaning, meaning_in, without_end, OffsetByte, Entries, spelled_in, commands_by, after_end, shown_by, read_by, ReadsIn}
+use Rattle.gerber_text.proofs.Common.{ℕ, suc, Bool, true, false, cond, eqb, ltb, List, [], ◌∷◌, length, drop, Option, None, Some, Result, Ok, Err, unwrap_or, sym, subst, codes, bytes_eq, AllByRecursion, list_any, prefix_len, take_while, option_map, option_or, Reason, Fault, BadWord, ClearPolarity, NegativeImage, Incremental, TrailingZeros, SeveralInOne, BadNumber, TooFine, TooFar, Inch, Millimetre, ◌>>=◌, both, with_place, is_digit, is_number_char, parse_decimal, value, whole, fraction, value_without_point, to_units, signed_value, is_decimal, fits_eight_decimals, Profile, Strict, Wide, extended_in, Quadrant, RegionStart, RegionEnd, UnitIs, Dark, Clear, Mirror, Macro, RepeatEnd, Single, Multi, Action, Plot, Move, Flash, Standard, Interpolation, int_of, nat_of, Meaning, Row, first_match, field, Fields, no_effect_row, comment, mode_row, quadrant_row, region_row, unit_row, incremental_row, action, d_word, g54_word, select_row, coordinate, named_action, kind, operands, operate, operation_row, finish_row, deprecated_row, words, word, split_by, last_byte, before_last, is_name, standard_template, are_sizes, before_comma, after_comma, has_several_pieces, refused_format_row, format_fields, format_row, unit_piece_row, all_values, sizes_of, aperture_number, define_standard, define_named, define_template, define, definition, macro_of, macro_definition, polarity_row, mirror_row, turn, scale, transform_row, block_fields, repeat, repeat_fields, repeat_start, repeat_row, file_attribute, attribute, removal, no_effect_piece_row, neutral_axes_row, negative_row, deprecated_piece_row, block_aperture_row, pieces, piece, extended_meaning, meaning_in, repeated_in, without_end, OffsetByte, Entries, spelled_in, commands_by, after_end, shown_by, read_by, ReadsIn}
 use Rattle.std.specs.Prelude.{ℤ, map, is_some, unwrap_or, not, ◌&&◌}
 use Rattle.gerber_commands.specs.declared.command.AttributeKind.{AttributeKind}
 use Rattle.grid_units.specs.Rows.{strip_prefix}
@@ -148,25 +148,26 @@ unfolding coordinate
 coordinate_reasons None = reasons_ok _
 coordinate_reasons (Some run) = reasons_bind _ _ (int_reasons run) (λ n. reasons_ok _)
 
-with_reasons : (offsets : Bool) (n : ℕ) → ReadingReasons (action_with offsets n)
-with_reasons offsets n = reasons_bind _ _ (action_reasons n) (λ what. reasons_cond _ _ _ (reasons_err _ _ tt) (reasons_ok _))
+which_reasons : (digits : Option (List ℕ)) (repeated : Option Action) → ReadingReasons (named_action digits repeated)
+which_reasons None None = reasons_err _ _ tt
+which_reasons None (Some what) = reasons_ok _
+which_reasons (Some digits) repeated = reasons_bind _ _ (nat_reasons digits) action_reasons
 
-kind_reasons : (plotting offsets : Bool) (digits : Option (List ℕ)) → ReadingReasons (kind plotting offsets digits)
+kind_reasons : (repeated : Option Action) (offsets : Bool) (digits : Option (List ℕ)) → ReadingReasons (kind repeated offsets digits)
 unfolding kind
-kind_reasons plotting offsets None = reasons_cond _ _ _ (reasons_ok _) (reasons_err _ _ tt)
-kind_reasons plotting offsets (Some digits) = reasons_bind _ _ (nat_reasons digits) (with_reasons offsets)
+kind_reasons repeated offsets digits = reasons_bind (named_action digits repeated) _ (which_reasons digits repeated) (λ what. reasons_cond _ _ _ (reasons_err _ _ tt) (reasons_ok _))
 
-operands_reasons : (plotting : Bool) (f : Fields) → ReadingReasons (operands plotting f)
+operands_reasons : (repeated : Option Action) (f : Fields) → ReadingReasons (operands repeated f)
 unfolding operands
-operands_reasons plotting f = reasons_both _ _ (reasons_both _ _ (reasons_both _ _ (coordinate_reasons f.x) (coordinate_reasons f.y)) (reasons_both _ _ (coordinate_reasons f.i) (coordinate_reasons f.j))) (kind_reasons plotting _ f.d)
+operands_reasons repeated f = reasons_both _ _ (reasons_both _ _ (reasons_both _ _ (coordinate_reasons f.x) (coordinate_reasons f.y)) (reasons_both _ _ (coordinate_reasons f.i) (coordinate_reasons f.j))) (kind_reasons repeated _ f.d)
 
-operate_reasons : (plotting : Bool) (mode : Option Interpolation) (f : Fields) → ReadingReasons (operate plotting mode f)
+operate_reasons : (repeated : Option Action) (mode : Option Interpolation) (f : Fields) → ReadingReasons (operate repeated mode f)
 unfolding operate
-operate_reasons plotting mode f = reasons_bind _ _ (operands_reasons plotting f) (λ r. reasons_ok _)
+operate_reasons repeated mode f = reasons_bind _ _ (operands_reasons repeated f) (λ r. reasons_ok _)
 
-operation_reasons : (plotting : Bool) (text : List ℕ) → RowReadingReasons (operation_row plotting text)
+operation_reasons : (repeated : Option Action) (text : List ℕ) → RowReadingReasons (operation_row repeated text)
 unfolding operation_row
-operation_reasons plotting text = row_cond _ _ _ (row_some _ (operate_reasons plotting _ _)) row_none
+operation_reasons repeated text = row_cond _ _ _ (row_some _ (operate_reasons repeated _ _)) row_none
 
 finish_reasons : (text : List ℕ) → RowReadingReasons (finish_row text)
 unfolding finish_row
@@ -176,12 +177,12 @@ deprecated_reasons : (text : List ℕ) → RowReadingReasons (deprecated_row tex
 unfolding deprecated_row
 deprecated_reasons text = row_cond _ _ _ (row_some _ (reasons_err _ _ tt)) row_none
 
-words_reasons : (plotting : Bool) (text : List ℕ) → AllByRecursion RowReadingReasons (words plotting text)
-words_reasons plotting text = (no_effect_reasons text, (row_map _ _ comment_reasons, (mode_reasons text, (quadrant_reasons text, (region_reasons text, (unit_reasons text, (incremental_reasons text, (select_reasons text, (operation_reasons plotting text, (finish_reasons text, (deprecated_reasons text, tt)))))))))))
+words_reasons : (repeated : Option Action) (text : List ℕ) → AllByRecursion RowReadingReasons (words repeated text)
+words_reasons repeated text = (no_effect_reasons text, (row_map _ _ comment_reasons, (mode_reasons text, (quadrant_reasons text, (region_reasons text, (unit_reasons text, (incremental_reasons text, (select_reasons text, (operation_reasons repeated text, (finish_reasons text, (deprecated_reasons text, tt)))))))))))
 
-word_reasons : (plotting : Bool) (text : List ℕ) → ReadingReasons (word plotting text)
+word_reasons : (repeated : Option Action) (text : List ℕ) → ReadingReasons (word repeated text)
 unfolding word
-word_reasons plotting text = reasons_cond (list_any (λ b. eqb b 37) text) (Err BadWord) (first_match (words plotting text)) (reasons_err _ BadWord tt) (first_reasons (words plotting text) (words_reasons plotting text))
+word_reasons repeated text = reasons_cond (list_any (λ b. eqb b 37) text) (Err BadWord) (first_match (words repeated text)) (reasons_err _ BadWord tt) (first_reasons (words repeated text) (words_reasons repeated text))
 
 -- ---- extended items
 
@@ -355,10 +356,10 @@ extended_reasons_in : (profile : Profile) (text : List ℕ) → ReadingReasons (
 extended_reasons_in Strict text = extended_reasons text
 extended_reasons_in Wide text = reasons_cond (bytes_eq (last_byte text) (codes "*")) (wide_pieces (before_last text)) (Err BadWord) (wide_reasons (before_last text)) (reasons_err _ BadWord tt)
 
-meaning_reasons : (profile : Profile) (plotting : Bool) (item : List ℕ) → ReadingReasons (meaning_in profile plotting item)
+meaning_reasons : (profile : Profile) (latest : Option Action) (item : List ℕ) → ReadingReasons (meaning_in profile latest item)
 unfolding meaning_in
-meaning_reasons profile plotting [] = reasons_err _ _ tt
-meaning_reasons profile plotting (b ∷ bs) = reasons_cond (eqb b 37) (extended_in profile (without_end bs)) (word plotting (without_end (b ∷ bs))) (extended_reasons_in profile (without_end bs)) (word_reasons plotting (without_end (b ∷ bs)))
+meaning_reasons profile latest [] = reasons_err _ _ tt
+meaning_reasons profile latest (b ∷ bs) = reasons_cond (eqb b 37) (extended_in profile (without_end bs)) (word (repeated_in profile latest) (without_end (b ∷ bs))) (extended_reasons_in profile (without_end bs)) (word_reasons (repeated_in profile latest) (without_end (b ∷ bs)))
 
 -- ---- texts
 

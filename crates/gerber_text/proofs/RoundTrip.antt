@@ -1,5 +1,5 @@
 -- The canonical text of a sayable list spells just this list.
-use Rattle.gerber_text.proofs.Common.{◌≡◌, ℕ, suc, ◌+◌, ◌≤◌, Bool, true, false, cond, not, ◌||◌, ◌&&◌, List, [], ◌∷◌, ◌++◌, length, Ok, refl, sym, ap, subst, ◌∙◌, arith, append_assoc, flat_map, append-nil, length-append, le-ltb, false≢true, ◌>>=◌, Strict, Command, is_line_break, is_end_item, IsItem, canonical, OffsetByte, offset_bytes_from, offset_bytes, bytes_of, first_offset, has_end, AreItems, Splits, spelled_in, Entries, is_plotting, commands_by, item_entries, without_breaks, Spells, is_sayable, is_finish, lines, sayable, without_places, ReadsAs, text_limit, both_true, not_true}
+use Rattle.gerber_text.proofs.Common.{◌≡◌, ℕ, suc, ◌+◌, ◌≤◌, Bool, true, false, cond, not, ◌||◌, ◌&&◌, List, [], ◌∷◌, ◌++◌, length, Ok, refl, sym, ap, subst, ◌∙◌, arith, append_assoc, flat_map, append-nil, length-append, le-ltb, false≢true, ◌>>=◌, Strict, Command, is_line_break, is_end_item, IsItem, canonical, OffsetByte, offset_bytes_from, offset_bytes, bytes_of, first_offset, has_end, AreItems, Splits, spelled_in, Entries, latest_action, commands_by, item_entries, without_breaks, Spells, is_sayable, is_finish, lines, sayable, without_places, ReadsAs, text_limit, both_true, not_true}
 use Rattle.gerber_text.proofs.CanonicalParses.{parses as canonical_spells}
 use Rattle.gerber_text.proofs.SpelledCommands.{canonical_ends}
 use Rattle.gerber_text.proofs.OffsetByteLemmas.{offset_bytes_from-append}
@@ -45,7 +45,7 @@ record Found (n place : ℕ) (cs : List Command) (before : Entries) : Type 0 whe
 
 parses : (place n : ℕ) (c : Command) (before : Entries) → Spells (canonical c) c → spelled_in Strict place (first_offset (offset_bytes_from n (canonical c))) (bytes_of (offset_bytes_from n (canonical c))) before ≡ Ok (before ++ item_entries place (first_offset (offset_bytes_from n (canonical c))) (c ∷ []))
 unfolding spelled_in
-parses place n c before s = rw (bytes_of_marks n (canonical c), le-ltb _ _ s.short, s.parses (is_plotting before)) refl
+parses place n c before s = rw (bytes_of_marks n (canonical c), le-ltb _ _ s.short, s.parses (latest_action before)) refl
 
 -- an item and its line end leave the item's bytes with their offsets
 one_line : (n : ℕ) (text rest : List ℕ) → offset_bytes_from n ((text ++ 10 ∷ []) ++ rest) ≡ offset_bytes_from n text ++ offset_bytes_from (n + length text + 1) rest

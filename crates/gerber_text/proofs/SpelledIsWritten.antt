@@ -1,6 +1,5 @@
 -- A text that spells commands is written for them.
-use Rattle.gerber_text.proofs.Common.{◌≡◌, ◌≢◌, ℕ, suc, ◌≤◌, Bool, true, false, cond, ◌||◌, ltb, List, [], ◌∷◌, ◌++◌, length, Result, Ok, Err, unwrap_or, refl, sym, ap, subst, ◌∙◌, append_assoc, option_or, flat_map, concat, list_any, AllByRecursion, append-nil, map-append, All-from_recursion, ltb-false, false≢true, Fault, Reason, TooLong, item_limit, ◌>>=◌, with_place, or_is_false, last_or-append, bind_ok, Command, Finish, Profile, IsItem, is_end_item, meaning_in, is_finish, OffsetByte, bytes_of, first_offset, has_end, AreItems, Entries, plot_of, is_plotting, item_entries, spelled_in, commands_by, may_follow, without_places, AreItemsIn, plots_after, IsEnd}
-use Rattle.grid_units.specs.Lists.{last_set}
+use Rattle.gerber_text.proofs.Common.{◌≡◌, ◌≢◌, ℕ, suc, ◌≤◌, Bool, true, false, cond, ◌||◌, ltb, List, [], ◌∷◌, ◌++◌, length, Result, Ok, Err, refl, sym, ap, subst, ◌∙◌, append_assoc, option_or, flat_map, concat, list_any, AllByRecursion, append-nil, map-append, All-from_recursion, ltb-false, false≢true, Fault, Reason, TooLong, item_limit, ◌>>=◌, with_place, or_is_false, last_set-append, bind_ok, Command, Finish, Profile, IsItem, is_end_item, meaning_in, is_finish, OffsetByte, bytes_of, first_offset, has_end, AreItems, Entries, action_of, latest_action, item_entries, spelled_in, commands_by, may_follow, without_places, AreItemsIn, IsEnd, Placed, last_set}
 use Rattle.gerber_text.specs.Laws.{SpelledTextsAreWrittenIn}
 use Rattle.gerber_text.proofs.GrammarItems.{item_written, is_end, end_means, item_ends}
 use Rattle.gerber_text.proofs.RoundTrip.{bytes_of_marks}
@@ -11,23 +10,23 @@ use Rattle.gerber_text.proofs.RoundTrip.{bytes_of_marks}
 pub record Added (profile : Profile) (place byte : ℕ) (bytes : List ℕ) (before after : Entries) : Type 0 where
   pub short : length bytes ≤ item_limit
   pub commands : List Command
-  pub spells : meaning_in profile (is_plotting before) bytes ≡ Ok commands
+  pub spells : meaning_in profile (latest_action before) bytes ≡ Ok commands
   pub whole : after ≡ before ++ item_entries place byte commands
 
 at_ok : (place byte : ℕ) (r : Result Entries Reason) (after : Entries) → with_place place byte r ≡ Ok after → r ≡ Ok after
 at_ok place byte (Ok x) after e = let same : x ≡ after = let o : (let r : Result Entries Fault = Ok x in r ≡ Ok after) = e in cc in ap (λ (y : Entries). Ok y) same
 at_ok place byte (Err r) after e = absurd cc
 
-added_by : (profile : Profile) (t : Bool) (place byte : ℕ) (bytes : List ℕ) (before after : Entries) → ltb item_limit (length bytes) ≡ t → cond t (Err TooLong) (meaning_in profile (is_plotting before) bytes >>= λ commands. Ok (before ++ item_entries place byte commands)) ≡ Ok after → Added profile place byte bytes before after
+added_by : (profile : Profile) (t : Bool) (place byte : ℕ) (bytes : List ℕ) (before after : Entries) → ltb item_limit (length bytes) ≡ t → cond t (Err TooLong) (meaning_in profile (latest_action before) bytes >>= λ commands. Ok (before ++ item_entries place byte commands)) ≡ Ok after → Added profile place byte bytes before after
 added_by profile true place byte bytes before after e h = absurd cc
 added_by profile false place byte bytes before after e h =
-    let b = bind_ok (meaning_in profile (is_plotting before) bytes) (λ commands. Ok (before ++ item_entries place byte commands)) after h in
+    let b = bind_ok (meaning_in profile (latest_action before) bytes) (λ commands. Ok (before ++ item_entries place byte commands)) after h in
     record { short = ltb-false item_limit (length bytes) e; commands = b.0; spells = b.1; whole = let same : before ++ item_entries place byte b.0 ≡ after = let o : (let r : Result Entries Reason = Ok (before ++ item_entries place byte b.0) in r ≡ Ok after) = b.2 in cc in sym same }
 
 pub added : (profile : Profile) (place byte : ℕ) (bytes : List ℕ) (before after : Entries) → spelled_in profile place byte bytes before ≡ Ok after → Added profile place byte bytes before after
 unfolding spelled_in
 added profile place byte bytes before after e =
-    added_by profile (ltb item_limit (length bytes)) place byte bytes before after refl (at_ok place byte (cond (ltb item_limit (length bytes)) (Err TooLong) (meaning_in profile (is_plotting before) bytes >>= λ commands. Ok (before ++ item_entries place byte commands))) after e)
+    added_by profile (ltb item_limit (length bytes)) place byte bytes before after refl (at_ok place byte (cond (ltb item_limit (length bytes)) (Err TooLong) (meaning_in profile (latest_action before) bytes >>= λ commands. Ok (before ++ item_entries place byte commands))) after e)
 
 pub bare : (place byte : ℕ) (cs : List Command) → without_places (item_entries place byte cs) ≡ cs
 bare place byte [] = refl
@@ -37,14 +36,14 @@ pub bare_append : (xs ys : Entries) → without_places (xs ++ ys) ≡ without_pl
 bare_append [] ys = refl
 bare_append (x ∷ xs) ys = ap (λ (l : List Command). x.what ∷ l) (bare_append xs ys)
 
--- ---- whether a plot goes on
+-- ---- the last operation
 
-last_placed : (place byte : ℕ) (cs : List Command) → last_set (λ entry. plot_of entry.what) (item_entries place byte cs) ≡ last_set plot_of cs
+last_placed : (place byte : ℕ) (cs : List Command) → last_set (λ entry. action_of entry.what) (item_entries place byte cs) ≡ last_set action_of cs
 last_placed place byte [] = refl
-last_placed place byte (c ∷ cs) = ap (λ o. option_or o (plot_of c)) (last_placed place byte cs)
+last_placed place byte (c ∷ cs) = ap (λ o. option_or o (action_of c)) (last_placed place byte cs)
 
-pub plots_more : (old : Entries) (place byte : ℕ) (cs : List Command) → is_plotting (old ++ item_entries place byte cs) ≡ plots_after (is_plotting old) cs
-plots_more old place byte cs = last_or-append (λ entry. plot_of entry.what) false old (item_entries place byte cs) ∙ ap (λ o. unwrap_or o (is_plotting old)) (last_placed place byte cs)
+pub latest_more : (old : Entries) (place byte : ℕ) (cs : List Command) → latest_action (old ++ item_entries place byte cs) ≡ option_or (last_set action_of cs) (latest_action old)
+latest_more old place byte cs = last_set-append (λ (entry : Placed Command). action_of entry.what) old (item_entries place byte cs) ∙ ap (λ o. option_or o (latest_action old)) (last_placed place byte cs)
 
 -- ---- commands before the end of the text
 
@@ -66,7 +65,7 @@ record Written (profile : Profile) (cut : List (List OffsetByte)) (old after : E
   end : List ℕ
   before : List Command
   whole : bytes_of (flat_map (λ item. item) cut) ≡ concat items ++ end
-  spelled : AreItemsIn profile (is_plotting old) items before
+  spelled : AreItemsIn profile (latest_action old) items before
   not_ended : AllByRecursion (λ c. c ≢ Finish) before
   ends : IsEnd end
   is : without_places after ≡ without_places old ++ (before ++ Finish ∷ [])
@@ -80,7 +79,7 @@ regroup a b c d = append_assoc a b (c ++ d) ∙ ap (λ (l : List Command). a ++ 
 last_written : (profile : Profile) (place : ℕ) (item : List OffsetByte) (items : List (List OffsetByte)) (old middle after : Entries) → is_end_item (bytes_of item) ≡ true → items ≡ [] → Added profile place (first_offset item) (bytes_of item) old middle → commands_by profile (suc place) items middle ≡ Ok after → Written profile (item ∷ items) old after
 last_written profile place item items old middle after e none a h =
     let same : middle ≡ after = let o : (let r : Result Entries Fault = Ok middle in r ≡ Ok after) = ap (λ (l : List (List OffsetByte)). commands_by profile (suc place) l middle) (sym none) ∙ h in cc in
-    let commands : a.commands ≡ Finish ∷ [] = let o : (let r : Result (List Command) Reason = Ok a.commands in r ≡ Ok (Finish ∷ [])) = sym a.spells ∙ (end_means profile (is_plotting old) (bytes_of item) (is_end (bytes_of item) e)).1 in cc in
+    let commands : a.commands ≡ Finish ∷ [] = let o : (let r : Result (List Command) Reason = Ok a.commands in r ≡ Ok (Finish ∷ [])) = sym a.spells ∙ (end_means profile (latest_action old) (bytes_of item) (is_end (bytes_of item) e)).1 in cc in
     record {
       items = [];
       end = bytes_of item;
@@ -94,15 +93,15 @@ last_written profile place item items old middle after e none a h =
 
 next_written : (profile : Profile) (place : ℕ) (item : List OffsetByte) (items : List (List OffsetByte)) (old middle after : Entries) → IsItem (bytes_of item) → is_end_item (bytes_of item) ≡ false → Added profile place (first_offset item) (bytes_of item) old middle → Written profile items middle after → Written profile (item ∷ items) old after
 next_written profile place item items old middle after one end a w =
-    let written = item_written profile (is_plotting old) (bytes_of item) a.commands one a.spells in
-    let plots : is_plotting middle ≡ plots_after (is_plotting old) a.commands = ap is_plotting a.whole ∙ plots_more old place (first_offset item) a.commands in
+    let written = item_written profile (latest_action old) (bytes_of item) a.commands one a.spells in
+    let latest : latest_action middle ≡ option_or (last_set action_of a.commands) (latest_action old) = ap latest_action a.whole ∙ latest_more old place (first_offset item) a.commands in
     record {
       items = bytes_of item ∷ w.items;
       end = w.end;
       before = a.commands ++ w.before;
       whole = map-append (λ (m : OffsetByte). m.1) item (flat_map (λ (i : List OffsetByte). i) items) ∙ (ap (λ (l : List ℕ). bytes_of item ++ l) w.whole ∙ sym (append_assoc (bytes_of item) (concat w.items) w.end));
-      spelled = (a.commands, w.before, refl, a.short, written, subst (λ p. AreItemsIn profile p w.items w.before) plots w.spelled);
-      not_ended = none_in_both a.commands w.before (none_finish a.commands (item_ends profile (is_plotting old) (bytes_of item) a.commands written ∙ end)) w.not_ended;
+      spelled = (a.commands, w.before, refl, a.short, written, subst (λ p. AreItemsIn profile p w.items w.before) latest w.spelled);
+      not_ended = none_in_both a.commands w.before (none_finish a.commands (item_ends profile (latest_action old) (bytes_of item) a.commands written ∙ end)) w.not_ended;
       ends = w.ends;
       is = w.is ∙ (ap (λ (l : List Command). l ++ (w.before ++ Finish ∷ [])) (added_bare place (first_offset item) old middle a.commands a.whole) ∙ regroup (without_places old) a.commands w.before (Finish ∷ []));
     }

@@ -1,5 +1,5 @@
 -- The commands that a text spells are sayable.
-use Rattle.gerber_text.proofs.Common.{◌≡◌, ◌≢◌, ℕ, suc, ◌+◌, ◌<◌, ◌≤◌, Bool, true, false, not, ◌&&◌, List, [], ◌∷◌, ◌++◌, length, drop, get_or, Result, Ok, Err, refl, sym, ap, ◌∙◌, arith, append_assoc, drop-cons, IfOk, Vec, list_all, concat, AllByRecursion, drop_all, recursion_from_All, list_all-append, Fail, AnswersAlways, Strict, Command, Finish, canonical, is_not_break, has_valid_fields, is_sayable, is_finish, Placed, AreItemsIn, plots_after, Entries, ReadsIn, SpellsTextIn, entries_of, without_places, sayable, both_true}
+use Rattle.gerber_text.proofs.Common.{◌≡◌, ◌≢◌, ℕ, suc, ◌+◌, ◌<◌, ◌≤◌, Bool, true, false, not, ◌&&◌, Option, None, option_or, List, [], ◌∷◌, ◌++◌, length, drop, get_or, Result, Ok, Err, refl, sym, ap, ◌∙◌, arith, append_assoc, drop-cons, IfOk, Vec, list_all, concat, AllByRecursion, drop_all, recursion_from_All, list_all-append, Fail, AnswersAlways, Strict, Action, Command, Finish, canonical, is_not_break, has_valid_fields, is_sayable, is_finish, Placed, AreItemsIn, Entries, ReadsIn, SpellsTextIn, entries_of, without_places, sayable, both_true, action_of, last_set}
 use Rattle.gerber_text.proofs.GrammarItems.{other}
 use Rattle.gerber_text.proofs.RunLemmas.{all_parts}
 use Rattle.gerber_text.proofs.SpelledCommands.{filter_all}
@@ -9,11 +9,11 @@ use Rattle.gerber_text.proofs.WrittenIsSayable.{item_sayable}
 
 -- ---- what is written
 
-items_sayable : (plotting : Bool) (items : List (List ℕ)) (rest : List ℕ) (cs : List Command) → AreItemsIn Strict plotting items cs → list_all is_not_break (concat items ++ rest) ≡ true → list_all is_sayable cs ≡ true
-items_sayable plotting [] rest cs h k = ap (list_all is_sayable) h
-items_sayable plotting (item ∷ items) rest cs (first, others, is, short, written, more) k =
+items_sayable : (latest : Option Action) (items : List (List ℕ)) (rest : List ℕ) (cs : List Command) → AreItemsIn Strict latest items cs → list_all is_not_break (concat items ++ rest) ≡ true → list_all is_sayable cs ≡ true
+items_sayable latest [] rest cs h k = ap (list_all is_sayable) h
+items_sayable latest (item ∷ items) rest cs (first, others, is, short, written, more) k =
     let kept = all_parts is_not_break item (concat items ++ rest) (ap (list_all is_not_break) (sym (append_assoc item (concat items) rest)) ∙ k) in
-    ap (list_all is_sayable) is ∙ (list_all-append is_sayable first others ∙ (λ i. item_sayable plotting item first written kept.0 short i && items_sayable (plots_after plotting first) items rest others more kept.1 i))
+    ap (list_all is_sayable) is ∙ (list_all-append is_sayable first others ∙ (λ i. item_sayable latest item first written kept.0 short i && items_sayable (option_or (last_set action_of first) latest) items rest others more kept.1 i))
 
 finish_sayable : is_sayable Finish ≡ true
 unfolding has_valid_fields canonical
@@ -29,7 +29,7 @@ pub text_sayable : (text : List ℕ) (cs : Entries) → SpellsTextIn Strict text
 text_sayable text cs s =
     let w = spelled_is_written Strict text cs s in
     let kept : list_all is_not_break (concat w.items ++ (w.end ++ w.tail)) ≡ true = ap (list_all is_not_break) (sym (w.written ∙ append_assoc (concat w.items) w.end w.tail)) ∙ filter_all is_not_break text in
-    ap sayable w.is ∙ ends w.before (items_sayable false w.items (w.end ++ w.tail) w.before w.spelled kept) (recursion_from_All (λ c. c ≢ Finish) w.before w.not_ended)
+    ap sayable w.is ∙ ends w.before (items_sayable None w.items (w.end ++ w.tail) w.before w.spelled kept) (recursion_from_All (λ c. c ≢ Finish) w.before w.not_ended)
 
 -- ---- what a call returned
 

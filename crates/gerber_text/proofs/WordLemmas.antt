@@ -60,10 +60,10 @@ some_stands false false false false = refl
 six : (a b c d e f : List ℕ) → a ++ (b ++ (c ++ (d ++ (e ++ f)))) ≡ a ++ b ++ c ++ d ++ e ++ f
 six a b c d e f = simp append_assoc refl
 
-pub word_written : (plotting : Bool) (m : Option Interpolation) (x y i j : Option (List ℕ)) (a : Action) (v w s t : Option ℤ) → NamesInt x v → NamesInt y w → NamesInt i s → NamesInt j t → (is_plot a || not (is_some s || is_some t)) ≡ true
-    → IsOperation plotting (operation_word m x y i j a) (modes_of m ++ Operate a v w s t ∷ [])
+pub word_written : (repeated : Option Action) (m : Option Interpolation) (x y i j : Option (List ℕ)) (a : Action) (v w s t : Option ℤ) → NamesInt x v → NamesInt y w → NamesInt i s → NamesInt j t → (is_plot a || not (is_some s || is_some t)) ≡ true
+    → IsOperation repeated (operation_word m x y i j a) (modes_of m ++ Operate a v w s t ∷ [])
 unfolding operation_word code
-word_written plotting m x y i j a v w s t nx ny ni nj h = record {
+word_written repeated m x y i j a v w s t nx ny ni nj h = record {
   mode = (mode_prefix m, modes_of m);
   x = x;
   y = y;
@@ -156,7 +156,7 @@ names_int None h = (refl, tt)
 names_int (Some v) h = let run = int_is v h in (ap (λ r. Some r) run.reads, run.numbers)
 
 -- the operation is written, and its bytes are those of a text
-pub operation_written : (a : Action) (x y i j : Option ℤ) → has_operands a x y i j ≡ true → ((plotting : Bool) → IsOperation plotting (operation_text a x y i j) (Operate a x y i j ∷ [])) × (is_text (operation_text a x y i j) ≡ true)
+pub operation_written : (a : Action) (x y i j : Option ℤ) → has_operands a x y i j ≡ true → ((repeated : Option Action) → IsOperation repeated (operation_text a x y i j) (Operate a x y i j ∷ [])) × (is_text (operation_text a x y i j) ≡ true)
 unfolding operation_text
 operation_written a x y i j h =
     let k = both_true (is_optional_int x && is_optional_int y) ((is_optional_int i && is_optional_int j) && (is_plot a || not (is_some i || is_some j))) h in
@@ -167,7 +167,7 @@ operation_written a x y i j h =
     let ny = names_int y xy.1 in
     let ni = names_int i ij.0 in
     let nj = names_int j ij.1 in (
-      λ plotting. word_written plotting None (runs_word x) (runs_word y) (runs_word i) (runs_word j) a x y i j nx.0 ny.0 ni.0 nj.0 l.1,
+      λ repeated. word_written repeated None (runs_word x) (runs_word y) (runs_word i) (runs_word j) a x y i j nx.0 ny.0 ni.0 nj.0 l.1,
       word_bytes None (runs_word x) (runs_word y) (runs_word i) (runs_word j) a nx.1 ny.1 ni.1 nj.1,
     )
 

@@ -1,5 +1,5 @@
 -- What the grammar of items writes is sayable.
-use Rattle.gerber_text.proofs.Common.{◌≡◌, ◌≢◌, ◌⊎◌, inl, inr, ℕ, suc, ◌+◌, ◌≤◌, Bool, true, false, cond, not, ◌||◌, ◌&&◌, eqb, leb, List, [], ◌∷◌, ◌++◌, length, map, ℤ, Option, Some, None, is_some, Ok, Contains, refl, sym, ap, ◌∙◌, arith, lit≤, codes, decimal, bytes_eq, list_all, list_any, join_with_byte, AllByRecursion, length-append, All-contains, All-from_recursion, recursion_from_All, list_all-append, AllPass-from_list_all, le-leb, nat_tests, item_limit, parse_decimal, and_true, both_true, or_is_false, list_all_append, Strict, Command, Comment, FormatIs, Define, Macro, Select, Operate, Turn, Scale, Repeat, Attribute, Remove, Action, Plot, Circle, Rectangle, Obround, Polygon, Template, canonical, is_negative_comment, is_negative_image, int_of, nat_of, standard_template, min_sizes, max_sizes, is_plot, NamesInt, fixed_words, modes, IsOperation, IsWord, HasNo, fixed_pieces, standards, IsMacroName, IsTemplate, SpellsOne, IsPiece, bytes_are, is_not_break, IsItemIn, is_text_byte, is_text, is_optional_text, is_optional_int, is_dec, is_macro_name, is_template, has_valid_fields, is_short, is_sayable}
+use Rattle.gerber_text.proofs.Common.{◌≡◌, ◌≢◌, ◌⊎◌, inl, inr, ℕ, suc, ◌+◌, ◌≤◌, Bool, true, false, cond, not, ◌||◌, ◌&&◌, eqb, leb, List, [], ◌∷◌, ◌++◌, length, map, ℤ, Option, Some, None, is_some, Ok, Contains, refl, sym, ap, ◌∙◌, arith, lit≤, codes, decimal, bytes_eq, list_all, list_any, join_with_byte, AllByRecursion, length-append, All-contains, All-from_recursion, recursion_from_All, list_all-append, AllPass-from_list_all, le-leb, nat_tests, item_limit, parse_decimal, and_true, both_true, or_is_false, list_all_append, Strict, Command, Comment, FormatIs, Define, Macro, Select, Operate, Turn, Scale, Repeat, Attribute, Remove, Action, Plot, Circle, Rectangle, Obround, Polygon, Template, canonical, is_negative_comment, is_negative_image, int_of, nat_of, standard_template, min_sizes, max_sizes, is_plot, NamesInt, fixed_words, modes, IsOperation, IsWord, HasNo, fixed_pieces, standards, IsMacroName, IsTemplate, SpellsOne, IsPiece, bytes_are, is_not_break, IsItemIn, is_text_byte, is_text, is_optional_text, is_optional_int, is_dec, is_macro_name, is_template, has_valid_fields, is_short, is_sayable, repeated_in}
 use Rattle.std.specs.Prelude.{All}
 use Rattle.gerber_commands.specs.declared.command.AttributeKind.TheVariants as kinds
 use Rattle.gerber_commands.specs.declared.command.Template.TheVariants as templates
@@ -79,9 +79,9 @@ plot_alone what i j (inr none) = (λ k. is_plot what || not (is_some (none.0 k) 
     or_true true = refl
     or_true false = refl
 
-operation_sayable : (plotting : Bool) (w : List ℕ) (cs : List Command) → IsOperation plotting w cs → list_all is_sayable cs ≡ true
+operation_sayable : (repeated : Option Action) (w : List ℕ) (cs : List Command) → IsOperation repeated w cs → list_all is_sayable cs ≡ true
 unfolding has_valid_fields is_bounded
-operation_sayable plotting w cs o =
+operation_sayable repeated w cs o =
     let x = named_int o.x o.at.0 o.names.0 in
     let y = named_int o.y o.at.1 o.names.1 in
     let i = named_int o.i o.offset.0 o.names.2 in
@@ -91,16 +91,16 @@ operation_sayable plotting w cs o =
     let one : is_sayable c ≡ true = bounded c (λ k. (x.0 k && y.0 k) && ((i.0 k && j.0 k) && plots k)) refl in
     ap (list_all is_sayable) o.is ∙ (list_all-append is_sayable o.mode.1 (c ∷ []) ∙ (λ k. form_sayable (([], []) ∷ modes) o.mode modes_sayable o.mode_is k && (one k && true)))
 
-word_sayable : (plotting : Bool) (w : List ℕ) (cs : List Command) → IsWord plotting w cs → list_all is_not_break w ≡ true → HasNo 42 w → length w + 1 ≤ item_limit → list_all is_sayable cs ≡ true
+word_sayable : (repeated : Option Action) (w : List ℕ) (cs : List Command) → IsWord repeated w cs → list_all is_not_break w ≡ true → HasNo 42 w → length w + 1 ≤ item_limit → list_all is_sayable cs ≡ true
 unfolding has_valid_fields is_bounded
-word_sayable plotting w cs (inl at) h k l = form_sayable fixed_words (w, cs) words_sayable at
-word_sayable plotting w cs (inr (inl at)) h k l = form_sayable modes (w, cs) modes_sayable at
-word_sayable plotting w cs (inr (inr (inl (text, is, spelled, positive, percent)))) h k l =
+word_sayable repeated w cs (inl at) h k l = form_sayable fixed_words (w, cs) words_sayable at
+word_sayable repeated w cs (inr (inl at)) h k l = form_sayable modes (w, cs) modes_sayable at
+word_sayable repeated w cs (inr (inr (inl (text, is, spelled, positive, percent)))) h k l =
     let said = all_text text (halves text (ap (list_all is_not_break) (sym is) ∙ h) percent) (ap (list_any (λ b. eqb b 42)) (sym is) ∙ k) in
     let valid : (is_text text && not (is_negative_comment text)) ≡ true = λ i. said i && not (positive i) in
     alone (Comment text) cs spelled (limited (Comment text) (length text) 1048572 valid (comment_test (Comment text) text refl valid) (omega (arith, l, ap length is)))
-word_sayable plotting w cs (inr (inr (inr (inl (digits, n, is, e, ten, spelled))))) h k l = alone (Select n) cs spelled (bounded (Select n) (λ i. le-leb 10 n ten i && (was_nat digits n e).range i) refl)
-word_sayable plotting w cs (inr (inr (inr (inr o)))) h k l = operation_sayable plotting w cs o
+word_sayable repeated w cs (inr (inr (inr (inl (digits, n, is, e, ten, spelled))))) h k l = alone (Select n) cs spelled (bounded (Select n) (λ i. le-leb 10 n ten i && (was_nat digits n e).range i) refl)
+word_sayable repeated w cs (inr (inr (inr (inr o)))) h k l = operation_sayable repeated w cs o
 
 -- ---- apertures
 
@@ -196,9 +196,9 @@ piece_sayable text cs (inr (star, inr (inr (idle, none)))) h l = ap (list_all is
 -- ---- items
 
 -- each command of an item that the grammar writes is sayable
-pub item_sayable : (plotting : Bool) (item : List ℕ) (cs : List Command) → IsItemIn Strict plotting item cs → list_all is_not_break item ≡ true → length item ≤ item_limit → list_all is_sayable cs ≡ true
-item_sayable plotting item cs (inl (w, is, star, written)) h l =
-    word_sayable plotting w cs written (all_parts is_not_break w (42 ∷ []) (ap (list_all is_not_break) (sym is) ∙ h)).0 star (omega (arith, l, ap length is, length-append w (42 ∷ [])))
-item_sayable plotting item cs (inr (text, is, percent, written)) h l =
+pub item_sayable : (latest : Option Action) (item : List ℕ) (cs : List Command) → IsItemIn Strict latest item cs → list_all is_not_break item ≡ true → length item ≤ item_limit → list_all is_sayable cs ≡ true
+item_sayable latest item cs (inl (w, is, star, written)) h l =
+    word_sayable (repeated_in Strict latest) w cs written (all_parts is_not_break w (42 ∷ []) (ap (list_all is_not_break) (sym is) ∙ h)).0 star (omega (arith, l, ap length is, length-append w (42 ∷ [])))
+item_sayable latest item cs (inr (text, is, percent, written)) h l =
     let kept = (all_parts is_not_break text (42 ∷ 37 ∷ []) (ap (list_all is_not_break) (sym is) ∙ h)).0 in
     piece_sayable text cs written (halves text kept percent) (omega (arith, l, ap length is, length-append text (42 ∷ 37 ∷ [])))

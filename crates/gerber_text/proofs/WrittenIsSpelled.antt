@@ -1,10 +1,10 @@
 -- A text that is written for commands spells just these, and is written for no others.
-use Rattle.gerber_text.proofs.Common.{◌≡◌, ◌≢◌, inl, inr, ℕ, suc, ◌≤◌, Bool, true, false, ◌||◌, List, [], ◌∷◌, ◌++◌, length, Result, Ok, refl, sym, ap, subst, ◌∙◌, arith, append_assoc, flat_map, concat, list_any, AllByRecursion, append-nil, recursion_from_All, false≢true, Profile, Fault, item_limit, ◌>>=◌, Command, Finish, is_end_item, is_finish, OffsetByte, offset_bytes, bytes_of, first_offset, has_end, AreItems, Entries, is_plotting, item_entries, commands_by, may_follow, without_places, IsItemIn, AreItemsIn, plots_after, IsEnd}
+use Rattle.gerber_text.proofs.Common.{◌≡◌, ◌≢◌, inl, inr, ℕ, suc, ◌≤◌, true, false, ◌||◌, Option, None, option_or, List, [], ◌∷◌, ◌++◌, length, Result, Ok, refl, sym, ap, subst, ◌∙◌, arith, append_assoc, flat_map, concat, list_any, AllByRecursion, append-nil, recursion_from_All, false≢true, Profile, Fault, item_limit, ◌>>=◌, Action, Command, Finish, is_end_item, is_finish, OffsetByte, offset_bytes, bytes_of, first_offset, has_end, AreItems, Entries, latest_action, item_entries, commands_by, may_follow, without_places, IsItemIn, AreItemsIn, IsEnd, action_of, last_set}
 use Rattle.gerber_text.specs.Laws.{WrittenTextsAreSpelledIn, TextsSpellOneListIn}
 use Rattle.gerber_text.proofs.GrammarItems.{item_means, end_means, other, item_ends}
 use Rattle.gerber_text.proofs.Items.{spelled_ok}
 use Rattle.gerber_text.proofs.RoundTrip.{bytes_of_marks}
-use Rattle.gerber_text.proofs.SpelledIsWritten.{bare, bare_append, plots_more}
+use Rattle.gerber_text.proofs.SpelledIsWritten.{bare, bare_append, latest_more}
 use Rattle.gerber_text.proofs.SpellsTextLemmas.{spells_reads}
 use Rattle.gerber_text.proofs.UniqueReading.{one_read}
 
@@ -38,8 +38,8 @@ end_is_short end (inl e) = omega (arith, ap length e)
 end_is_short end (inr e) = omega (arith, ap length e)
 
 -- an item that is written for no Finish is not the end of the text
-goes_on : (profile : Profile) (plotting : Bool) (item : List ℕ) (cs : List Command) → IsItemIn profile plotting item cs → AllByRecursion (λ c. c ≢ Finish) cs → is_end_item item ≡ false
-goes_on profile plotting item cs h none = sym (item_ends profile plotting item cs h) ∙ no_finish cs none
+goes_on : (profile : Profile) (latest : Option Action) (item : List ℕ) (cs : List Command) → IsItemIn profile latest item cs → AllByRecursion (λ c. c ≢ Finish) cs → is_end_item item ≡ false
+goes_on profile latest item cs h none = sym (item_ends profile latest item cs h) ∙ no_finish cs none
   where
     no_finish : (ds : List Command) → AllByRecursion (λ c. c ≢ Finish) ds → list_any is_finish ds ≡ false
     no_finish [] n = refl
@@ -68,7 +68,7 @@ found_last profile place ms old end tail h e =
     let d = divide ms end tail e in
     let at = first_offset d.front in
     let ends = subst IsEnd (sym d.front_is) h in
-    let means = end_means profile (is_plotting old) (bytes_of d.front) ends in
+    let means = end_means profile (latest_action old) (bytes_of d.front) ends in
     record {
       items = d.front ∷ [];
       left = d.back;
@@ -81,14 +81,14 @@ found_last profile place ms old end tail h e =
       left_is = d.back_is;
     }
 
-found_next : (profile : Profile) (place : ℕ) (ms : List OffsetByte) (old : Entries) (item rest tail : List ℕ) (first commands : List Command) (d : Divided ms item rest) → IsItemIn profile (is_plotting old) item first → length item ≤ item_limit → AllByRecursion (λ c. c ≢ Finish) first
+found_next : (profile : Profile) (place : ℕ) (ms : List OffsetByte) (old : Entries) (item rest tail : List ℕ) (first commands : List Command) (d : Divided ms item rest) → IsItemIn profile (latest_action old) item first → length item ≤ item_limit → AllByRecursion (λ c. c ≢ Finish) first
     → Found profile d.back (suc place) (old ++ item_entries place (first_offset d.front) first) commands tail → Found profile ms place old (first ++ commands) tail
 found_next profile place ms old item rest tail first commands d written short none f =
     let at = first_offset d.front in
     let now = item_entries place at first in
-    let here = subst (λ (l : List ℕ). IsItemIn profile (is_plotting old) l first) (sym d.front_is) written in
-    let is = item_means profile (is_plotting old) (bytes_of d.front) first here in
-    let not_end = goes_on profile (is_plotting old) (bytes_of d.front) first here none in
+    let here = subst (λ (l : List ℕ). IsItemIn profile (latest_action old) l first) (sym d.front_is) written in
+    let is = item_means profile (latest_action old) (bytes_of d.front) first here in
+    let not_end = goes_on profile (latest_action old) (bytes_of d.front) first here none in
     let added : without_places (old ++ now) ≡ without_places old ++ first = bare_append old now ∙ ap (λ (l : List Command). without_places old ++ l) (bare place at first) in
     record {
       items = d.front ∷ f.items;
@@ -105,18 +105,18 @@ found_next profile place ms old item rest tail first commands d written short no
 regroup : (a b c d : List ℕ) → ((a ++ b) ++ c) ++ d ≡ a ++ ((b ++ c) ++ d)
 regroup a b c d = ap (λ (l : List ℕ). l ++ d) (append_assoc a b c) ∙ append_assoc a (b ++ c) d
 
-found : (profile : Profile) (place : ℕ) (plotting : Bool) (items : List (List ℕ)) (before : List Command) (ms : List OffsetByte) (old : Entries) (end tail : List ℕ) → plotting ≡ is_plotting old → AreItemsIn profile plotting items before → AllByRecursion (λ c. c ≢ Finish) before → IsEnd end
+found : (profile : Profile) (place : ℕ) (latest : Option Action) (items : List (List ℕ)) (before : List Command) (ms : List OffsetByte) (old : Entries) (end tail : List ℕ) → latest ≡ latest_action old → AreItemsIn profile latest items before → AllByRecursion (λ c. c ≢ Finish) before → IsEnd end
     → bytes_of ms ≡ concat items ++ end ++ tail → Found profile ms place old (before ++ Finish ∷ []) tail
-found profile place plotting [] before ms old end tail same h none ends e = subst (λ (l : List Command). Found profile ms place old (l ++ Finish ∷ []) tail) (sym h) (found_last profile place ms old end tail ends e)
-found profile place plotting (item ∷ items) before ms old end tail same h none ends e =
+found profile place latest [] before ms old end tail same h none ends e = subst (λ (l : List Command). Found profile ms place old (l ++ Finish ∷ []) tail) (sym h) (found_last profile place ms old end tail ends e)
+found profile place latest (item ∷ items) before ms old end tail same h none ends e =
     let first = h.0 in
     let others = h.1 in
     let rest = concat items ++ end ++ tail in
     let parts = all_parts (λ c. c ≢ Finish) first others (subst (AllByRecursion (λ c. c ≢ Finish)) h.2 none) in
     let d = divide ms item rest (e ∙ regroup item (concat items) end tail) in
     let now = item_entries place (first_offset d.front) first in
-    let plots : plots_after plotting first ≡ is_plotting (old ++ now) = ap (λ t. plots_after t first) same ∙ sym (plots_more old place (first_offset d.front) first) in
-    let more = found profile (suc place) (plots_after plotting first) items others d.back (old ++ now) end tail plots h.5 parts.1 ends d.back_is in
+    let later : option_or (last_set action_of first) latest ≡ latest_action (old ++ now) = ap (option_or (last_set action_of first)) same ∙ sym (latest_more old place (first_offset d.front) first) in
+    let more = found profile (suc place) (option_or (last_set action_of first) latest) items others d.back (old ++ now) end tail later h.5 parts.1 ends d.back_is in
     let written = subst (λ t. IsItemIn profile t item first) same h.4 in
     let joined : first ++ (others ++ Finish ∷ []) ≡ before ++ Finish ∷ [] = sym (append_assoc first others (Finish ∷ [])) ∙ ap (λ (l : List Command). l ++ Finish ∷ []) (sym h.2) in
     subst (λ (l : List Command). Found profile ms place old l tail) joined (found_next profile place ms old item rest tail first (others ++ Finish ∷ []) d written h.3 parts.0 more)
@@ -129,7 +129,7 @@ all_follow (m ∷ left) h = (h.0, all_follow left h.1)
 
 pub written_is_spelled : WrittenTextsAreSpelledIn
 written_is_spelled profile text commands w =
-    let f = found profile 1 false w.items w.before (offset_bytes text) [] w.end w.tail refl w.spelled (recursion_from_All (λ c. c ≢ Finish) w.before w.not_ended) w.ends (bytes_of_marks 0 text ∙ w.written) in
+    let f = found profile 1 None w.items w.before (offset_bytes text) [] w.end w.tail refl w.spelled (recursion_from_All (λ c. c ≢ Finish) w.before w.not_ended) w.ends (bytes_of_marks 0 text ∙ w.written) in
     let follows = subst (AllByRecursion (λ b. may_follow b ≡ true)) (sym f.left_is) (recursion_from_All (λ b. may_follow b ≡ true) w.tail w.follows) in (
       f.after,
       f.is ∙ sym w.is,

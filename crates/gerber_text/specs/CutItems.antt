@@ -1,7 +1,8 @@
 -- Items as they are cut from a text, and what they spell (docs/FORMATS.md, Cutting; What an item spells).
-use Rattle.std.specs.Prelude.{◌≡◌, ℕ, ◌≤◌, Bool, true, not, List, [], ◌∷◌, length, filter, Ok, Contains}
+use Rattle.std.specs.Prelude.{◌≡◌, ℕ, ◌≤◌, Bool, true, not, List, [], ◌∷◌, length, filter, Option, Ok, Contains}
 use Rattle.std.specs.List.{list_all}
 use Rattle.grid_units.specs.declared.profile.Profile.TheVariants.{Strict}
+use Rattle.gerber_commands.specs.declared.command.Action.{Action}
 use Rattle.gerber_commands.specs.declared.command.Command.{Command}
 use Rattle.gerber_text.specs.Items.{is_line_break, IsItem}
 use Rattle.gerber_text.specs.Meaning.{meaning_in}
@@ -26,13 +27,13 @@ pub record IsCutItem (bytes : List ℕ) : Type 0 where
 pub record Spells (text : List ℕ) (command : Command) : Type 0 where
   pub one : IsItem (without_breaks text)
   pub short : length (without_breaks text) ≤ item_limit
-  pub parses : (plotting : Bool) → meaning_in Strict plotting (without_breaks text) ≡ Ok (command ∷ [])
+  pub parses : (latest : Option Action) → meaning_in Strict latest (without_breaks text) ≡ Ok (command ∷ [])
 
 -- some item of the strict profile spells this command, alone or with another one: `G01X5D01*` spells a Mode and an Operate
 pub record IsSpelled (command : Command) : Type 0 where
-  pub plotting : Bool
+  pub latest : Option Action
   pub item : List ℕ
   pub cut : IsCutItem item
   pub commands : List Command
-  pub spells : meaning_in Strict plotting item ≡ Ok commands
+  pub spells : meaning_in Strict latest item ≡ Ok commands
   pub among : Contains commands command

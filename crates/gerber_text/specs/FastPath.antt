@@ -2,6 +2,7 @@
 use Rattle.std.specs.Prelude.{◌≡◌, ℕ, ◌+◌, ◌<◌, ◌≤◌, Bool, true, false, List, [], ◌∷◌, ◌++◌, length, take, Option, None, Some, IfSome, Ok, codes, ℤ}
 use Rattle.std.specs.List.{AllByRecursion}
 use Rattle.grid_units.specs.Numbers.{is_number_char}
+use Rattle.gerber_commands.specs.declared.command.Action.{Action}
 use Rattle.gerber_commands.specs.declared.command.Command.{Command}
 use Rattle.gerber_commands.specs.declared.command.Command.TheVariants.{Attribute, Comment, Operate, Remove}
 use Rattle.gerber_commands.specs.declared.command.Interpolation.{Interpolation}
@@ -31,7 +32,7 @@ pub record HasLeadingOperation (bytes : List ℕ) (len : ℕ) (commands : List C
   pub one : IsItem (take len bytes)
   pub kept : AllByRecursion (λ b. is_line_break b ≡ false) (take len bytes)
   pub goes_on : is_end_item (take len bytes) ≡ false
-  pub parses : (profile : Profile) (plotting : Bool) → meaning_in profile plotting (take len bytes) ≡ Ok commands
+  pub parses : (profile : Profile) (latest : Option Action) → meaning_in profile latest (take len bytes) ≡ Ok commands
 
 -- The bytes are an Int of this value, at most 13 bytes long, and this rest: `-50Y3` is -50 and `Y3` (docs/FORMATS.md, Runs).
 pub record HasLeadingInt (bytes : List ℕ) (n : ℤ) (rest : List ℕ) : Type 0 where

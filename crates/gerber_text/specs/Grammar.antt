@@ -1,8 +1,10 @@
 -- The grammar of Gerber texts: the bytes that are written for a list of commands in a profile (docs/FORMATS.md, Cutting; The wide profile). Reading says why and where any other text is refused.
-use Rattle.std.specs.Prelude.{◌≡◌, ◌≢◌, ◌≤◌, ◌⊎◌, ℕ, Bool, true, false, List, [], ◌∷◌, ◌++◌, length, unwrap_or, codes}
+use Rattle.std.specs.Prelude.{◌≡◌, ◌≢◌, ◌≤◌, ◌⊎◌, ℕ, true, List, [], ◌∷◌, ◌++◌, length, Option, None, codes}
 use Rattle.std.specs.List.{All, concat}
+use Rattle.std.specs.Option.{option_or}
 use Rattle.grid_units.specs.Lists.{last_set}
 use Rattle.grid_units.specs.Limits.{text_limit, item_limit}
+use Rattle.gerber_commands.specs.declared.command.Action.{Action}
 use Rattle.gerber_commands.specs.declared.command.Command.{Command}
 use Rattle.gerber_commands.specs.declared.command.Command.TheVariants.{Finish}
 use Rattle.grid_units.specs.declared.profile.Profile.{Profile}
@@ -10,26 +12,23 @@ use Rattle.gerber_commands.specs.WordGrammar.{IsWord}
 use Rattle.gerber_commands.specs.PieceGrammar.{HasNo}
 use Rattle.gerber_commands.specs.Profiles.{IsPieceIn}
 use Rattle.gerber_text.specs.CutItems.{without_breaks}
-use Rattle.gerber_text.specs.Reading.{plot_of, may_follow}
+use Rattle.gerber_text.specs.Meaning.{repeated_in}
+use Rattle.gerber_text.specs.Reading.{action_of, may_follow}
 use Rattle.grid_units.specs.Ascii as ascii
 
 -- ---- items
 
--- an item for these commands, where the last operation before it is a plot or not: a word and `*`, as `D10*`, or a piece between `%` and `*%`, as `%MOMM*%` (Gerber format, Commands)
-abbrev pub IsItemIn : Profile → Bool → List ℕ → List Command → Type 0
-IsItemIn profile plotting item commands =
-    ((text : List ℕ) × (item ≡ text ++ codes "*") × HasNo ascii.asterisk text × IsWord plotting text commands)
+-- an item for these commands after this last operation, or after none: a word and `*`, as `D10*`, or a piece between `%` and `*%`, as `%MOMM*%` (Gerber format, Commands)
+abbrev pub IsItemIn : Profile → Option Action → List ℕ → List Command → Type 0
+IsItemIn profile latest item commands =
+    ((text : List ℕ) × (item ≡ text ++ codes "*") × HasNo ascii.asterisk text × IsWord (repeated_in profile latest) text commands)
     ⊎ ((text : List ℕ) × (item ≡ codes "%" ++ text ++ codes "*%") × HasNo ascii.percent text × IsPieceIn profile text commands)
 
--- whether the last operation is a plot after these commands, given whether it is one before them: `D10*` changes nothing (Gerber format, Coordinate data without operation code)
-abbrev pub plots_after : Bool → List Command → Bool
-plots_after plotting commands = unwrap_or (last_set plot_of commands) plotting
-
--- items for these commands in order, each at most 1,048,576 bytes long: `D10*`, `X5D03*` (docs/FORMATS.md, Cutting)
-abbrev pub AreItemsIn : Profile → Bool → List (List ℕ) → List Command → Type 0
-AreItemsIn profile plotting [] commands = commands ≡ []
-AreItemsIn profile plotting (item ∷ items) commands =
-    (first others : List Command) × (commands ≡ first ++ others) × (length item ≤ item_limit) × IsItemIn profile plotting item first × AreItemsIn profile (plots_after plotting first) items others
+-- items for these commands in order after this last operation, or after none, each at most 1,048,576 bytes long: `D10*`, `X5D03*` (docs/FORMATS.md, Cutting)
+abbrev pub AreItemsIn : Profile → Option Action → List (List ℕ) → List Command → Type 0
+AreItemsIn profile latest [] commands = commands ≡ []
+AreItemsIn profile latest (item ∷ items) commands =
+    (first others : List Command) × (commands ≡ first ++ others) × (length item ≤ item_limit) × IsItemIn profile latest item first × AreItemsIn profile (option_or (last_set action_of first) latest) items others
 
 -- ---- texts
 
@@ -45,7 +44,7 @@ pub record IsTextIn (profile : Profile) (text : List ℕ) (commands : List Comma
   pub tail : List ℕ
   pub before : List Command
   pub written : without_breaks text ≡ concat items ++ end ++ tail
-  pub spelled : AreItemsIn profile false items before
+  pub spelled : AreItemsIn profile None items before
   pub not_ended : All (λ c. c ≢ Finish) before
   pub ends : IsEnd end
   pub follows : All (λ b. may_follow b ≡ true) tail

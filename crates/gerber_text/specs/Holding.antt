@@ -11,7 +11,7 @@ use Rattle.gerber_text.specs.declared.placed.PassedOperation.{PassedOperation}
 use Rattle.gerber_text.specs.declared.placed.PassedText.{PassedText}
 use Rattle.gerber_text.specs.FastPath.{operation_commands, text_command}
 use Rattle.gerber_text.specs.Cut.{OffsetByte, offset_bytes, bytes_of, first_offset, has_end, Splits}
-use Rattle.gerber_text.specs.Reading.{Entries, item_entries, commands_by, shown_by, ShowsIn, ReadsIn, SpellsBeforeFaultIn, is_plotting}
+use Rattle.gerber_text.specs.Reading.{Entries, item_entries, commands_by, shown_by, ShowsIn, ReadsIn, SpellsBeforeFaultIn, latest_action}
 
 -- The reader reads in this profile. The text is cut into items, which spell the commands that are gone and those that the reader holds,
 -- and into a rest, whose bytes are the unfinished item.
@@ -21,7 +21,7 @@ pub record Holds (reader : Progress) (profile : Profile) (gone : Entries) (text 
   pub rest : List OffsetByte
   pub splits : Splits (offset_bytes text) items rest
   pub commands : shown_by profile items rest ≡ Ok (gone ++ reader.commands.items)
-  pub plotting : reader.plotting ≡ is_plotting (gone ++ reader.commands.items)
+  pub latest : reader.latest ≡ latest_action (gone ++ reader.commands.items)
   pub count : reader.items ≡ length items
   pub pending : has_end items ≡ false → reader.item.items ≡ bytes_of rest
   pub start : has_end items ≡ false → 0 < length rest → reader.start ≡ first_offset rest

@@ -1,6 +1,6 @@
 -- The commands of a Gerber text in a profile, or its first fault (docs/FORMATS.md, Cutting; The first fault; What an item spells; The
 -- wide profile).
-use Rattle.std.specs.Prelude.{◌≡◌, ℕ, suc, ◌≤◌, Bool, true, false, ◌||◌, ◌==◌, nat_lt, List, [], ◌∷◌, ◌++◌, length, take, map, if◌then◌else◌, Result, Ok, Err, IfOk, Option, Some, None, unwrap_or}
+use Rattle.std.specs.Prelude.{◌≡◌, ℕ, suc, ◌≤◌, Bool, true, ◌||◌, ◌==◌, nat_lt, List, [], ◌∷◌, ◌++◌, length, take, map, if◌then◌else◌, Result, Ok, Err, IfOk, Option, Some, None}
 use Rattle.std.specs.List.{list_all, AllByRecursion}
 use Rattle.std.specs.Global.{Vec}
 use Rattle.grid_units.specs.Results.{◌>>=◌, fault, with_place, IfFault}
@@ -9,6 +9,7 @@ use Rattle.grid_units.specs.declared.fault.Reason.TheVariants.{TooLong, AfterEnd
 use Rattle.grid_units.specs.declared.fault.Fault.{Fault}
 use Rattle.grid_units.specs.declared.fault.Fail.{Fail}
 use Rattle.grid_units.specs.declared.fault.Fail.TheVariants as fails
+use Rattle.gerber_commands.specs.declared.command.Action.{Action}
 use Rattle.gerber_commands.specs.declared.command.Command.{Command}
 use Rattle.gerber_commands.specs.declared.command.Command.TheVariants.{Operate}
 use Rattle.grid_units.specs.declared.profile.Profile.{Profile}
@@ -16,25 +17,24 @@ use Rattle.gerber_text.specs.Meaning.{meaning_in}
 use Rattle.gerber_text.specs.declared.placed.Placed.{Placed}
 use Rattle.gerber_text.specs.Cut.{OffsetByte, offset_bytes, bytes_of, first_offset, has_end, Splits}
 use Rattle.grid_units.specs.Limits.{text_limit, item_limit}
-use Rattle.gerber_commands.specs.Words.{is_plot}
 use Rattle.grid_units.specs.Ascii as ascii
 
 -- commands, each with the number of its item, from 1, and the offset of that item's first byte
 abbrev pub Entries : Type 0
 Entries = List (Placed Command)
 
--- whether an operation is a plot; `None` for any other command
-abbrev pub plot_of : Command → Option Bool
-plot_of (Operate action x y i j) = Some (is_plot action)
-plot_of _ = None
+-- what an operation does: plot, move or flash; `None` for any other command
+abbrev pub action_of : Command → Option Action
+action_of (Operate action x y i j) = Some action
+action_of _ = None
 
--- the last operation among these commands is a plot (Gerber format, Coordinate data without operation code)
-abbrev pub is_plotting : Entries → Bool
-is_plotting before = unwrap_or (last_set (λ entry. plot_of entry.what) before) false
+-- the last operation among these commands, if there is one (Gerber format, Coordinate data without operation code)
+abbrev pub latest_action : Entries → Option Action
+latest_action before = last_set (λ entry. action_of entry.what) before
 
--- the answer of a call that adds these entries after others: whether the last operation is a plot, given whether it is one before them
-abbrev pub PlotsAfter : {E : Type 0} → Bool → Result Bool E → Entries → Type 0
-PlotsAfter plotting result more = (before : Entries) → plotting ≡ is_plotting before → IfOk result (λ new. new ≡ is_plotting (before ++ more))
+-- the answer of a call that adds these entries after others: the last operation, given the last one before them
+abbrev pub LatestAfter : {E : Type 0} → Option Action → Result (Option Action) E → Entries → Type 0
+LatestAfter latest result more = (before : Entries) → latest ≡ latest_action before → IfOk result (λ new. new ≡ latest_action (before ++ more))
 
 -- the commands of one item, each with the item's number and the offset of its first byte
 abbrev pub item_entries : ℕ → ℕ → List Command → Entries
@@ -44,7 +44,7 @@ item_entries place byte commands = map (λ what. record { place = place; byte = 
 unfoldable pub spelled_in : Profile → ℕ → ℕ → List ℕ → Entries → Result Entries Fault
 spelled_in profile place byte bytes before =
     with_place place byte (if nat_lt item_limit (length bytes) then Err TooLong
-    else (meaning_in profile (is_plotting before) bytes >>= λ commands. Ok (before ++ item_entries place byte commands)))
+    else (meaning_in profile (latest_action before) bytes >>= λ commands. Ok (before ++ item_entries place byte commands)))
 
 -- What a call leaves is what reading gives, running out of memory aside: the commands after it, or the fault.
 abbrev pub ResultsIn : {X : Type 0} → Result X Fail → Entries → Result Entries Fault → Type 0

@@ -2,10 +2,10 @@
 
 ghost use Rattle.std.specs.Prelude.{◌≡◌, ◌↔◌, IsTrue};
 ghost use Rattle.gerber_text.specs.Items.{is_end_item, end_byte, IsEnded};
-ghost use Rattle.gerber_text.specs.Meaning.{meaning_in, without_end};
+ghost use Rattle.gerber_text.specs.Meaning.{meaning_in, repeated_in, without_end};
 ghost use Rattle.grid_units.specs.Results.{Gives};
 
-use gerber_commands::{ItemCommands, read_extended_in, read_word};
+use gerber_commands::{Action, ItemCommands, read_extended_in, read_word};
 use grid_units::{ItemFail, Profile, Reason};
 use std::alloc::Global;
 
@@ -46,8 +46,18 @@ fn prefix(bytes: &[u8]) -> &[u8]
     }
 }
 
-/// The commands of an item in a profile, given whether the last operation before it is a plot. An item has no line breaks, and
-/// its last byte is its end: a `%` where it begins with `%`, else a `*` ([`is_ended`]).
+/// The operation that coordinates alone repeat in a profile: the last one, but in the strict profile only a plot.
+fn repeated_in(profile: Profile, latest: Option<Action>) -> Option<Action>
+    ensures { result ≡ repeated_in profile latest }
+{
+    match (profile, latest) {
+        (Profile::Strict, Some(Action::Move | Action::Flash)) => None,
+        _ => latest,
+    }
+}
+
+/// The commands of an item in a profile, given the last operation before it. An item has no line breaks, and its last byte
+/// is its end: a `%` where it begins with `%`, else a `*` ([`is_ended`]).
 ///
 /// # Errors
 ///
@@ -56,15 +66,15 @@ fn prefix(bytes: &[u8]) -> &[u8]
 pub fn read_item_in(
     alloc: Global,
     profile: Profile,
-    plotting: bool,
+    latest: Option<Action>,
     bytes: &[u8],
 ) -> Result<ItemCommands, ItemFail>
     requires item { IsEnded bytes.now }
-    ensures { Gives result (meaning_in profile plotting bytes.now) }
+    ensures { Gives result (meaning_in profile latest bytes.now) }
 {
     match bytes {
         [] => Err(ItemFail::Refused(Reason::BadWord)),
         [b'%', rest @ ..] => read_extended_in(alloc, profile, prefix(rest)),
-        _ => read_word(alloc, plotting, prefix(bytes)),
+        _ => read_word(alloc, repeated_in(profile, latest), prefix(bytes)),
     }
 }

@@ -1,10 +1,11 @@
 //! Laws of what a text shows, reads as and spells. Calling one does nothing, but gives its clauses.
 
-ghost use Rattle.std.specs.Prelude.{◌≡◌, ◌↔◌, true, ℕ, Bool, List, Result, Ok, Err, All};
+ghost use Rattle.std.specs.Prelude.{◌≡◌, ◌↔◌, true, ℕ, List, Option, Result, Ok, Err, All};
 ghost use Rattle.grid_units.specs.declared.fault.Fault.{Fault};
 ghost use Rattle.gerber_text.specs.Reading.{Entries, ShowsIn, ReadsIn, SpellsTextIn};
 ghost use Rattle.gerber_text.specs.Reasons.{IsReasonOfReading};
 ghost use Rattle.gerber_text.specs.Writing.{without_places, sayable};
+ghost use Rattle.gerber_commands.specs.declared.command.Action.{Action};
 ghost use Rattle.gerber_commands.specs.declared.command.Command.{Command};
 ghost use Rattle.std.specs.List.{list_any};
 ghost use Rattle.gerber_text.specs.Items.{is_end_item};
@@ -40,8 +41,8 @@ pub fn canonical_items()
 /// Each command that an item spells is sayable, so the sayable commands are just those that items spell; and
 /// `M02` alone spells the end of the text.
 pub fn spelled_commands()
-    ensures said { (plotting : Bool) (item : List ℕ) (commands : List Command) → IsCutItem item → meaning_in Strict plotting item ≡ Ok commands → All (λ command. is_sayable command ≡ true) commands }
-    ensures ends { (plotting : Bool) (item : List ℕ) (commands : List Command) → IsCutItem item → meaning_in Strict plotting item ≡ Ok commands → list_any is_finish commands ≡ is_end_item item }
+    ensures said { (latest : Option Action) (item : List ℕ) (commands : List Command) → IsCutItem item → meaning_in Strict latest item ≡ Ok commands → All (λ command. is_sayable command ≡ true) commands }
+    ensures ends { (latest : Option Action) (item : List ℕ) (commands : List Command) → IsCutItem item → meaning_in Strict latest item ≡ Ok commands → list_any is_finish commands ≡ is_end_item item }
     ensures exact { (command : Command) → (is_sayable command ≡ true) ↔ IsSpelled command }
 {}
 

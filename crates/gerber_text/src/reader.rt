@@ -1,7 +1,8 @@
 //! A Gerber text, read whole or in pieces.
 
-ghost use Rattle.std.specs.Prelude.{◌≡◌, List, ℕ, ◌+◌, ◌≤◌, ◌<◌, ◌||◌, ◌==◌, true, false, Bool, if◌then◌else◌, Ok, OnOk, OnErr, IfOk, IfErr, IfNone, IfSome, take, drop, length, vec_len, slice_index, All, IsTrue, map, ◌++◌, [], ◌∷◌, unwrap_or};
+ghost use Rattle.std.specs.Prelude.{◌≡◌, List, ℕ, ◌+◌, ◌≤◌, ◌<◌, ◌||◌, ◌==◌, true, false, Bool, if◌then◌else◌, Ok, OnOk, OnErr, IfOk, IfErr, IfNone, IfSome, take, drop, length, vec_len, slice_index, All, IsTrue, map, ◌++◌, [], ◌∷◌};
 ghost use Rattle.std.specs.List.{list_all};
+ghost use Rattle.std.specs.Option.{option_or};
 ghost use Rattle.grid_units.specs.declared.fault.Fail.TheVariants.{Refused};
 ghost use Rattle.grid_units.specs.Limits.{item_limit, text_limit};
 ghost use Rattle.grid_units.specs.Lists.{last_set};
@@ -10,15 +11,15 @@ ghost use Rattle.gerber_text.specs.Items.{end_byte, is_line_break, IsEnded};
 ghost use Rattle.gerber_commands.specs.Rows.{modes_of};
 ghost use Rattle.gerber_commands.specs.declared.command.Command.TheVariants.{Mode};
 ghost use Rattle.grid_units.specs.declared.profile.Profile.TheVariants.{Strict};
-ghost use Rattle.gerber_text.specs.Reading.{Entries, spelled_in, item_entries, PlotsAfter, ResultsIn, plot_of, is_plotting, ReadsIn, SpellsTextIn, ReadsUpToFault, SpellsBeforeFaultIn, entries_of, entries_after, is_blank};
+ghost use Rattle.gerber_text.specs.Reading.{Entries, spelled_in, item_entries, LatestAfter, ResultsIn, action_of, latest_action, ReadsIn, SpellsTextIn, ReadsUpToFault, SpellsBeforeFaultIn, entries_of, entries_after, is_blank};
 ghost use Rattle.gerber_text.specs.Inner.Bytes.{IsInside, HasLeadingItem, may_follow_end};
 ghost use Rattle.gerber_text.specs.Writing.{without_places, sayable};
 
 use crate::placed::{PassedOperation, PassedText, Placed};
 use crate::text_items::{LeadingText, leading_text};
 use crate::{
-    Command, Interpolation, ItemCommands, ItemParts, LeadingOperation, end_byte, is_end_item,
-    is_plot, leading_operation, read_item_in,
+    Action, Command, Interpolation, ItemCommands, ItemParts, LeadingOperation, end_byte,
+    is_end_item, leading_operation, read_item_in,
 };
 use grid_units::{Fail, Fault, ITEM_LIMIT, ItemFail, Profile, Reason};
 use memchr::memchr3;
@@ -39,7 +40,7 @@ pub(crate) struct Progress {
     offset: u64,
     items: u64,
     ended: bool,
-    plotting: bool,
+    latest: Option<Action>,
     ghost counted: { items ≤ offset },
     ghost in_text: { offset ≤ text_limit },
     ghost in_item: { vec_len item ≤ item_limit },
@@ -121,36 +122,36 @@ fn are_blanks(bytes: &[u8]) -> bool
     bytes.iter().all(|b| *b == b' ' || *b == b'\t')
 }
 
-/// Whether the last operation is a plot, once this command has come.
-fn plots_after(before: bool, what: &Command) -> bool
-    ensures { result ≡ unwrap_or (plot_of what.now) before }
+/// The last operation, once this command has come.
+fn latest_after(before: Option<Action>, what: &Command) -> Option<Action>
+    ensures { result ≡ option_or (action_of what.now) before }
 {
     match what {
-        Command::Operate { action, .. } => is_plot(*action),
+        Command::Operate { action, .. } => Some(*action),
         _ => before,
     }
 }
 
-/// Adds the commands of an item, all or none, and returns whether the last operation is a plot.
+/// Adds the commands of an item, all or none, and returns the last operation.
 fn add(
     alloc: Global,
-    plotting: bool,
+    latest: Option<Action>,
     place: u64,
     byte: u64,
     spelled: ItemCommands,
     commands: &mut Vec<Placed<Command>>,
-) -> Result<bool, AllocError>
+) -> Result<Option<Action>, AllocError>
     ensures added { OnOk result (commands.new.items ≡ commands.old.items ++ item_entries place byte spelled) }
-    ensures plotting { PlotsAfter plotting result (item_entries place byte spelled) }
+    ensures latest { LatestAfter latest result (item_entries place byte spelled) }
     ensures err { OnErr result (commands.new.items ≡ commands.old.items) }
 {
     match spelled.into_parts() {
         ItemParts::Few(mode, command) => match (mode, command) {
-            (None, None) => Ok(plotting),
-            (Some(mode), None) => add_command(plotting, place, byte, Command::Mode(mode), commands),
-            (mode, Some(what)) => add_with_mode(plotting, place, byte, mode, what, commands),
+            (None, None) => Ok(latest),
+            (Some(mode), None) => add_command(latest, place, byte, Command::Mode(mode), commands),
+            (mode, Some(what)) => add_with_mode(latest, place, byte, mode, what, commands),
         },
-        ItemParts::Several(all) => add_all(alloc, plotting, place, byte, all, commands),
+        ItemParts::Several(all) => add_all(alloc, latest, place, byte, all, commands),
     }
 }
 
@@ -168,78 +169,77 @@ fn placed_all(
         .collect(alloc)
 }
 
-/// Whether the last operation is a plot, once these commands have come.
-fn plots_after_all(before: bool, entries: &[Placed<Command>]) -> bool
-    ensures { result ≡ unwrap_or (last_set (λ entry. plot_of entry.what) entries.now) before }
+/// The last operation, once these commands have come.
+fn latest_after_all(before: Option<Action>, entries: &[Placed<Command>]) -> Option<Action>
+    ensures { result ≡ option_or (last_set (λ entry. action_of entry.what) entries.now) before }
 {
-    let mut plots = before;
+    let mut latest = before;
     for entry in entries {
-        plots = plots_after(plots, &entry.what);
+        latest = latest_after(latest, &entry.what);
     }
-    plots
+    latest
 }
 
-/// Adds the commands of several pieces, all or none, and returns whether the last operation is a plot.
+/// Adds the commands of several pieces, all or none, and returns the last operation.
 #[inline(never)]
 fn add_all(
     alloc: Global,
-    plotting: bool,
+    latest: Option<Action>,
     place: u64,
     byte: u64,
     all: Vec<Command>,
     commands: &mut Vec<Placed<Command>>,
-) -> Result<bool, AllocError>
+) -> Result<Option<Action>, AllocError>
     ensures added { OnOk result (commands.new.items ≡ commands.old.items ++ item_entries place byte all.items) }
-    ensures plotting { PlotsAfter plotting result (item_entries place byte all.items) }
+    ensures latest { LatestAfter latest result (item_entries place byte all.items) }
     ensures err { OnErr result (commands.new.items ≡ commands.old.items) }
 {
     let mut placed = placed_all(alloc, place, byte, all)?;
-    let plots = plots_after_all(plotting, &placed);
+    let latest = latest_after_all(latest, &placed);
     commands.append(&mut placed)?;
-    Ok(plots)
+    Ok(latest)
 }
 
-/// Adds a command after an optional interpolation, both or none, and returns whether the last operation is a
-/// plot.
+/// Adds a command after an optional interpolation, both or none, and returns the last operation.
 // Most items are operations: inlined, their command is written just once, where it is kept.
 #[inline(always)]
 fn add_with_mode(
-    plotting: bool,
+    latest: Option<Action>,
     place: u64,
     byte: u64,
     mode: Option<Interpolation>,
     what: Command,
     commands: &mut Vec<Placed<Command>>,
-) -> Result<bool, AllocError>
+) -> Result<Option<Action>, AllocError>
     ensures added { OnOk result (commands.new.items ≡ commands.old.items ++ item_entries place byte (modes_of mode ++ what ∷ [])) }
-    ensures plotting { PlotsAfter plotting result (item_entries place byte (modes_of mode ++ what ∷ [])) }
+    ensures latest { LatestAfter latest result (item_entries place byte (modes_of mode ++ what ∷ [])) }
     ensures err { OnErr result (commands.new.items ≡ commands.old.items) }
 {
     match mode {
-        None => add_command(plotting, place, byte, what, commands),
+        None => add_command(latest, place, byte, what, commands),
         Some(mode) => {
-            let plotting = plots_after(plotting, &what);
+            let latest = latest_after(latest, &what);
             add_mode_and_command(place, byte, mode, what, commands)?;
-            Ok(plotting)
+            Ok(latest)
         }
     }
 }
 
-/// Adds a command, and returns whether the last operation is a plot.
+/// Adds a command, and returns the last operation.
 fn add_command(
-    plotting: bool,
+    latest: Option<Action>,
     place: u64,
     byte: u64,
     what: Command,
     commands: &mut Vec<Placed<Command>>,
-) -> Result<bool, AllocError>
+) -> Result<Option<Action>, AllocError>
     ensures added { OnOk result (commands.new.items ≡ commands.old.items ++ item_entries place byte (what ∷ [])) }
-    ensures plotting { PlotsAfter plotting result (item_entries place byte (what ∷ [])) }
+    ensures latest { LatestAfter latest result (item_entries place byte (what ∷ [])) }
     ensures err { OnErr result (commands.new.items ≡ commands.old.items) }
 {
-    let plotting = plots_after(plotting, &what);
+    let latest = latest_after(latest, &what);
     commands.push(Placed { place, byte, what })?;
-    Ok(plotting)
+    Ok(latest)
 }
 
 /// Adds two commands, or none.
@@ -281,25 +281,25 @@ fn add_or_cut(
     Ok(())
 }
 
-/// Adds the commands that an item spells in a profile, and returns whether the last operation is a plot.
+/// Adds the commands that an item spells in a profile, and returns the last operation.
 #[tactic(auto, unfolding(crate::specs::Reading::spelled_in))]
 fn parse_item(
     alloc: Global,
     profile: Profile,
-    plotting: bool,
+    latest: Option<Action>,
     place: u64,
     byte: u64,
     item: &[u8],
     commands: &mut Vec<Placed<Command>>,
-) -> Result<bool, Fail>
+) -> Result<Option<Action>, Fail>
     requires item { IsEnded item.now }
     requires short { length item.now ≤ item_limit }
-    ensures spelled { (gone : Entries) → plotting ≡ is_plotting (gone ++ commands.old.items) → ResultsIn result (gone ++ commands.new.items) (spelled_in profile place byte item.now (gone ++ commands.old.items)) }
-    ensures plotting { (gone : Entries) → plotting ≡ is_plotting (gone ++ commands.old.items) → IfOk result (λ new. new ≡ is_plotting (gone ++ commands.new.items)) }
+    ensures spelled { (gone : Entries) → latest ≡ latest_action (gone ++ commands.old.items) → ResultsIn result (gone ++ commands.new.items) (spelled_in profile place byte item.now (gone ++ commands.old.items)) }
+    ensures latest { (gone : Entries) → latest ≡ latest_action (gone ++ commands.old.items) → IfOk result (λ new. new ≡ latest_action (gone ++ commands.new.items)) }
     ensures err { OnErr result (commands.new.items ≡ commands.old.items) }
 {
-    match read_item_in(alloc, profile, plotting, item) {
-        Ok(spelled) => Ok(add(alloc, plotting, place, byte, spelled, commands)?),
+    match read_item_in(alloc, profile, latest, item) {
+        Ok(spelled) => Ok(add(alloc, latest, place, byte, spelled, commands)?),
         Err(ItemFail::Memory) => Err(Fail::Memory),
         Err(ItemFail::Refused(reason)) => Err(Fail::Refused(Fault {
             place,
@@ -395,8 +395,8 @@ impl Progress {
         } = operation;
         let what = Command::Operate { action, x, y, i, j };
         let place = self.items + 1;
-        self.plotting = add_with_mode(
-            self.plotting,
+        self.latest = add_with_mode(
+            self.latest,
             place,
             self.offset,
             mode,
@@ -418,7 +418,7 @@ impl Progress {
         ensures held { self.new.commands.items ≡ self.old.commands.items }
         ensures ok { self.old.commands.items ≡ [] → (profile : TheProfile) (gone : Entries) (text : List ℕ) → Holds self.old profile gone text → Holds self.new profile (gone ++ item_entries (self.old.items + 1) self.old.offset (operation_commands operation.now)) (text ++ take operation.now.len bytes.now) }
     {
-        self.plotting = is_plot(operation.action);
+        self.latest = Some(operation.action);
         self.items += 1;
         self.offset += operation.len as u64;
     }
@@ -539,10 +539,10 @@ impl Progress {
         let item = &bytes[..len];
         let place = self.items + 1;
         let byte = self.offset;
-        self.plotting = parse_item(
+        self.latest = parse_item(
             self.alloc,
             self.profile,
-            self.plotting,
+            self.latest,
             place,
             byte,
             item,
@@ -603,10 +603,10 @@ impl Progress {
             return Err(self.refuse(byte, Reason::TooLong));
         }
         self.item.push(last)?;
-        self.plotting = parse_item(
+        self.latest = parse_item(
             self.alloc,
             self.profile,
-            self.plotting,
+            self.latest,
             place,
             byte,
             &self.item,
@@ -791,7 +791,7 @@ impl WordReader {
             offset: 0,
             items: 0,
             ended: false,
-            plotting: false,
+            latest: None,
         };
         WordReader {
             progress,

@@ -11,3 +11,4 @@ pub mod ZeroFillingLemmas
 pub mod ReadPrefix
 mod NumberReasons
 pub mod Spelled
+pub mod SplitLemmas

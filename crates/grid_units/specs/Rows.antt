@@ -1,5 +1,6 @@
 -- Rows of a format's table, and which row decides what a text spells (docs/FORMATS.md, How a row fits and is read).
-use Rattle.std.specs.Prelude.{ℕ, List, [], ◌∷◌, length, take, drop, if◌then◌else◌, Option, None, Some, Result, Err}
+use Rattle.std.specs.Prelude.{ℕ, ◌==◌, List, [], ◌∷◌, length, take, drop, if◌then◌else◌, Option, None, Some, Result, Err}
+use Rattle.std.specs.List.{slice_split}
 use Rattle.std.specs.Str.{bytes_eq}
 use Rattle.grid_units.specs.declared.fault.Reason.{Reason}
 
@@ -26,3 +27,12 @@ literal_row (form ∷ forms) text = if bytes_eq text form.0 then Some form.1 els
 abbrev pub prefix_row : {A : Type 0} → List (List ℕ × Result A Reason) → List ℕ → RowOf A
 prefix_row [] text = None
 prefix_row (form ∷ forms) text = if bytes_eq (take (length form.0) text) form.0 then Some form.1 else prefix_row forms text
+
+-- the parts of a text between the bytes that divide it: `0.5X1` divided at `X` is `0.5` and `1`
+abbrev pub split_by : ℕ → List ℕ → List (List ℕ)
+split_by at text = slice_split (λ b. b == at) text
+
+-- the parts of an optional text, none where there is no text
+abbrev pub split_by_if : ℕ → Option (List ℕ) → List (List ℕ)
+split_by_if at None = []
+split_by_if at (Some text) = split_by at text

@@ -39,5 +39,5 @@ pub use profile::Profile;
 pub use rules::Rules;
 pub use span::{Span, is_in_span};
 pub use spelling::write_mm;
-pub use text::Text;
+pub use text::{Text, split_first};
 pub use zero_filling::{Zeros, from_zeros};

@@ -1,8 +1,10 @@
 //! Texts and names of a file: bytes, seen as a list.
 
-ghost use Rattle.std.specs.Prelude.{nat_eq};
+ghost use Rattle.std.specs.Prelude.{◌≡◌, ◌<◌, ◌∷◌, ◌==◌, nat_eq, length, position, IfSome};
+ghost use Rattle.std.specs.Option.{option_copied};
 ghost use Rattle.std.specs.Cmp.Lexicographic.{pointwise, nat_list_eq_equiv};
 ghost use Rattle.std.specs.Cmp.{partial_equiv_from_equiv};
+ghost use Rattle.grid_units.specs.Rows.{split_by, split_by_if};
 
 use std::alloc::{AllocError, Global};
 use std::marker::Model;
@@ -78,4 +80,22 @@ impl PartialEq for Text {
 
 impl Eq for Text {
     ghost laws = { nat_list_eq_equiv };
+}
+
+/// The offset of the first byte that divides a text.
+fn separator_at(at: u8, text: &[u8]) -> Option<usize>
+    ensures { result ≡ position (λ b. b == at) text.now }
+{
+    text.iter().position(|byte| *byte == at)
+}
+
+/// The first part of a text, and what follows the byte that divides it.
+pub fn split_first(at: u8, text: &[u8]) -> (&[u8], Option<&[u8]>)
+    ensures parts { split_by at text.now ≡ result.0.now ∷ split_by_if at (option_copied result.1) }
+    ensures shorter { IfSome result.1 (λ rest. length rest.now < length text.now) }
+{
+    match separator_at(at, text) {
+        Some(i) => (&text[..i], Some(&text[i + 1..])),
+        None => (text, None),
+    }
 }

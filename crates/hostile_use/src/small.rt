@@ -6,7 +6,7 @@ use crate::inputs::Held;
 use command_line::{Refusal, Request, parse};
 use drill_lines::write_line;
 use drill_text::{DrillCommand, read_drill};
-use gerber_text::{ItemCommands, ItemParts, is_ended, read_item_in, write_item};
+use gerber_text::{Action, ItemCommands, ItemParts, is_ended, read_item_in, write_item};
 use grid_units::{Fail, ItemFail, Profile, Reason, Text};
 use manifest::{FileContent, InputFile, Name, Proposal, propose, write_proposal, write_reasons};
 use std::alloc::{AllocError, Global};
@@ -17,7 +17,7 @@ pub(crate) fn items(alloc: Global, text: &[u8]) -> Result<Vec<u8>, AllocError> {
     let mut out = Vec::new(alloc);
     for line in text.split(|byte| *byte == b'\n') {
         let item = if is_ended(line) {
-            read_item_in(alloc, Profile::Strict, true, line)
+            read_item_in(alloc, Profile::Strict, Some(Action::Plot), line)
         } else {
             Err(ItemFail::Refused(Reason::BadWord))
         };

@@ -15,8 +15,8 @@ pub use Rattle.layer_features.specs.Clearing.{positions_up_to_clearing, clears_a
 pub use Rattle.layer_features.specs.Contours.{PlotState, contour_of, ends_of, is_clockwise, is_counterclockwise, is_move, part_by, part_of, points_of, polygon_by, region_parts, sides_of, starts_region}
 pub use Rattle.layer_features.specs.CopperLaws.{ContoursAreInsideEdges, FlashedShapesAreInPrimitives, LegalWidePads, UnclearedPositions, WidePadsAreUnique}
 pub use Rattle.layer_features.specs.Drawn.{DrawState, draw_state_after, drawn_by, mirroring_set, mode_set, near, operation_point, point_at, quadrant_set, selected_shape, stays_near}
-pub use Rattle.layer_features.specs.Features.{added_features, contour_count, contour_feature, counts_of, dark_kind, features_at, flash_feature, flashed_count, is_contour, is_flashed_pad, is_other, other_count, pad_in, pads_of, taken_away, taken_kind, wide_features_of}
-pub use Rattle.layer_features.specs.FurtherPads.{CopperState, clearing_after, clears_in, contours_in, copper_state_after, ended_copies, ended_regions, flash_shape, has_room, is_room, macro_why, plot_state}
+pub use Rattle.layer_features.specs.Features.{added_features, contour_count, contour_feature, counts_of, dark_kind, features_at, flash_feature, flashed_count, is_contour, is_flashed_pad, is_other, other_count, other_kind, pad_in, pads_of, taken_away, taken_kind, wide_features_of}
+pub use Rattle.layer_features.specs.FurtherPads.{CopperState, clearing_after, clears_in, contours_in, copper_state_after, ended_copies, ended_regions, flash_shape, flashed_pad, has_room, is_room, macro_why, plot_state}
 pub use Rattle.layer_features.specs.Inner.Forgetting.{are_sides_of_none, is_over, starts_no_pad, starts_no_polygon}
 pub use Rattle.layer_features.specs.Inner.Plotters.{Selection, after_command, draw_state, pencil_state, selection, selection_after}
 pub use Rattle.layer_features.specs.Inner.States.{IsLike, MakeSameContour, after, with_capped_regions, clearing_with, copper_state, parts_after, takes_part, with_parts}
@@ -33,6 +33,7 @@ pub use Rattle.layer_state.specs.Placing.{copy_in, in_order, is_turned_over, mir
 pub use Rattle.layer_state.specs.Rules.{all_rules, breaks_rule, broken_rule}
 unfoldable pub use Rattle.layer_state.specs.Rules.{first_broken}
 pub use Rattle.layer_state.specs.Shapes.{defined_numbered, macro_named, primitives_shape, selected_after, within_limits}
+unfoldable pub use Rattle.layer_state.specs.Shapes.{inner_primitive}
 pub use Rattle.layer_state.specs.declared.current.Current.{Current}
 pub use Rattle.layer_state.specs.declared.flash.Flash.{Flash}
 pub use Rattle.macro_shapes.specs.Primitives.{are_different, is_closed, is_same, moves, polygon_of, polygon_round, stops}

@@ -86,6 +86,7 @@ features_gone b n held features h = all_of_held held ∙ sym (first_then_all n h
 -- no pad is left
 no_pad_before : (at : GridPoint) (k : FeatureKind) (rest : List Feature) → pads_of (cons_option (option_map (λ (j : FeatureKind). record { at = at; what = j }) (taken_kind k)) rest) ≡ pads_of rest
 no_pad_before at (kind.Pad pad) rest = refl
+no_pad_before at (kind.Shape pad why) rest = refl
 no_pad_before at (kind.Contour pad) rest = refl
 no_pad_before at (kind.Other why) rest = refl
 no_pad_before at (kind.Macro why) rest = refl
@@ -124,6 +125,7 @@ of_left test at k rest = of_one test (record { at = at; what = k }) rest
 
 one_other : (at : GridPoint) (k : FeatureKind) (rest : List Feature) → other_count (left_before at k rest) ≡ (cond (is_flashed_pad k) 1 0 + cond (is_other k) 1 0) + other_count rest
 one_other at (kind.Pad pad) rest = omega (arith, of_left is_other at kind.Cleared rest)
+one_other at (kind.Shape pad why) rest = omega (arith, of_left is_other at kind.Cleared rest)
 one_other at (kind.Contour pad) rest = omega arith
 one_other at (kind.Other why) rest = omega (arith, of_left is_other at kind.Cleared rest)
 one_other at (kind.Macro why) rest = omega (arith, of_left is_other at kind.Cleared rest)
@@ -132,6 +134,7 @@ one_other at kind.Cleared rest = omega (arith, of_left is_other at kind.Cleared 
 
 one_flashed : (at : GridPoint) (k : FeatureKind) (rest : List Feature) → flashed_count (left_before at k rest) ≡ flashed_count rest
 one_flashed at (kind.Pad pad) rest = omega (arith, of_left is_flashed_pad at kind.Cleared rest)
+one_flashed at (kind.Shape pad why) rest = omega (arith, of_left is_flashed_pad at kind.Cleared rest)
 one_flashed at (kind.Contour pad) rest = refl
 one_flashed at (kind.Other why) rest = omega (arith, of_left is_flashed_pad at kind.Cleared rest)
 one_flashed at (kind.Macro why) rest = omega (arith, of_left is_flashed_pad at kind.Cleared rest)
@@ -140,6 +143,7 @@ one_flashed at kind.Cleared rest = omega (arith, of_left is_flashed_pad at kind.
 
 one_contour : (at : GridPoint) (k : FeatureKind) (rest : List Feature) → contour_count (left_before at k rest) ≡ contour_count rest
 one_contour at (kind.Pad pad) rest = omega (arith, of_left is_contour at kind.Cleared rest)
+one_contour at (kind.Shape pad why) rest = omega (arith, of_left is_contour at kind.Cleared rest)
 one_contour at (kind.Contour pad) rest = refl
 one_contour at (kind.Other why) rest = omega (arith, of_left is_contour at kind.Cleared rest)
 one_contour at (kind.Macro why) rest = omega (arith, of_left is_contour at kind.Cleared rest)

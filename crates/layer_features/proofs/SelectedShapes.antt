@@ -1,4 +1,4 @@
--- The shape that the selected aperture has is the shape of its macro.
+-- The shape that the selected aperture has is that of its template.
 use Rattle.layer_features.proofs.Common.{◌≡◌, ◌∙◌, ◌==◌, ℕ, Bool, true, false, List, [], ◌∷◌, Option, None, Some, refl, sym, ap, subst, arith, if◌then◌else◌, option_and_then, option_map, option_or, last_set, with_prefixes, GridRounded, Command, aperture_selected, unit_set, defined_numbered, macro_named, within_limits, selected_shape, draw_state_after, IsMacroShape, IsSelectedShape, IsTemplateShape, template_set}
 use Rattle.std.proofs.lemmas.Bool.Decides.{nat_tests}
 use Rattle.grid_units.specs.declared.lengths.Unit.{Unit as Units}
@@ -10,7 +10,7 @@ use Rattle.gerber_commands.specs.declared.command.Template.TheVariants as templa
 use Rattle.gerber_commands.specs.declared.command.Command.TheVariants as command
 use Rattle.layer_state.specs.declared.tables.Defined.{Defined}
 use Rattle.layer_state.specs.Lookback.{aperture_of}
-use Rattle.layer_state.specs.Shapes.{by_macro, defined_set, macro_shape}
+use Rattle.layer_state.specs.Shapes.{inner_shape, by_macro, defined_set}
 
 -- ---- what a list names last
 
@@ -27,7 +27,7 @@ last_mapped names g others same (c ∷ cs) = (λ i. option_or (last_mapped names
 
 -- what a template defines
 abbrev defined_of_template : ℕ → List Command × Template → Defined
-defined_of_template number d = record { aperture = aperture_of d.1; shape = macro_shape (last_set unit_set d.0) (macro_named d.0) number d.1 }
+defined_of_template number d = record { aperture = aperture_of d.1; shape = inner_shape (last_set unit_set d.0) (macro_named d.0) number d.1 }
 
 equal_numbers : (x y : ℕ) → (x == y) ≡ true → x ≡ y
 equal_numbers x y e = grind (arith, nat_tests, e)
@@ -62,7 +62,7 @@ of_template number None = refl
 of_template number (Some (before, template.Named name parameters)) = of_macro (last_set unit_set before) (within_limits number (macro_named before name)) parameters
 of_template number (Some (before, template.Standard which sizes)) = refl
 
--- the shape of the selected aperture is that of its macro
+-- the shape of the selected aperture is that of its template
 pub shape_is_selected : (before : List Command) (number : ℕ) → last_set aperture_selected before ≡ Some number → IsSelectedShape before (selected_shape (draw_state_after before))
 shape_is_selected before number selected =
     let last : Option (List Command × Template) = last_set (template_set number) (with_prefixes before) in

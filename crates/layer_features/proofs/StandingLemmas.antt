@@ -17,6 +17,7 @@ left_before at k rest = cons_option (option_map (λ (j : FeatureKind). record { 
 
 one_again : (at : GridPoint) (k : FeatureKind) (rest : List Feature) → left_of (left_before at k rest) ≡ left_before at k (left_of rest)
 one_again at (kind.Pad pad) rest = refl
+one_again at (kind.Shape pad why) rest = refl
 one_again at (kind.Contour pad) rest = refl
 one_again at (kind.Other why) rest = refl
 one_again at (kind.Macro why) rest = refl

@@ -12,7 +12,7 @@ use Rattle.gerber_commands.specs.declared.command.Template.TheVariants as templa
 pub same_value : {A : Type 0} (o : Option A) (a b : A) → o ≡ Some a → o ≡ Some b → a ≡ b
 same_value o a b p q = cc
 
--- ---- the shape of a macro
+-- ---- the shape of an aperture
 
 macro_once : (unit : Option Units) (pieces : Option (List (List ℕ))) (parameters : Option (List ℕ)) (a b : Option GridRounded) → IsMacroShape unit pieces parameters a → IsMacroShape unit pieces parameters b → a ≡ b
 macro_once (Some unit) (Some pieces) parameters a b p q =
@@ -23,7 +23,8 @@ macro_once None pieces parameters a b p q = p ∙ sym q
 
 template_once : (number : ℕ) (d : Option (List Command × Template)) (a b : Option GridRounded) → IsTemplateShape number d a → IsTemplateShape number d b → a ≡ b
 template_once number (Some (before, template.Named name parameters)) a b p q = macro_once (last_set unit_set before) (within_limits number (macro_named before name)) parameters a b p q
-template_once number d a b p q = p ∙ sym q
+template_once number (Some (before, template.Standard which sizes)) a b p q = p ∙ sym q
+template_once number None a b p q = p ∙ sym q
 
 shape_once : (before : List Command) (a b : Option GridRounded) → IsSelectedShape before a → IsSelectedShape before b → a ≡ b
 shape_once before a b p q =

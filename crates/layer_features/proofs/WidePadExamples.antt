@@ -1,5 +1,5 @@
 -- Pads of some commands in the wide profile.
-use Rattle.layer_features.proofs.Common.{◌≡◌, inl, ◌+◌, ℕ, ℤ, pos, true, false, List, [], ◌∷◌, ◌++◌, None, Some, refl, sym, ap, arith, parse_decimal, within_limit, GridPoint, Millimetre, GridRounded, WidePad, Command, Format, primitives_shape, AreWidePads, AreWidePadsOf, IsMacroShape}
+use Rattle.layer_features.proofs.Common.{◌≡◌, inl, ◌+◌, ℕ, ℤ, pos, true, false, List, [], ◌∷◌, ◌++◌, None, Some, refl, sym, ap, arith, parse_decimal, within_limit, GridPoint, Millimetre, GridRounded, WidePad, Command, Format, inner_primitive, primitives_shape, AreWidePads, AreWidePadsOf, IsMacroShape}
 use Rattle.std.proofs.Common.{neg_ℤ}
 use Rattle.pad_shapes.specs.declared.pad.Pad.TheVariants as pads
 use Rattle.pad_shapes.specs.declared.wide_pad.WidePad.TheVariants.{Plain, Rounded}
@@ -165,12 +165,26 @@ undefined_macro =
     (Millimetre, nanometres, aperture.Macro, None, record { outside = refl; in_unit = refl; in_format = refl; selected = refl }, (10, refl, refl), refl) in
     ([], _, refl, refl, ([], _, refl, refl, ([], _, refl, refl, ([], _, refl, refl, ([], [], refl, left, refl)))))
 
+-- `%ADD11R,2X1*%`, `D11*`, `%LR45*%`
+abbrev turned_box : List Command
+turned_box =
+    command.UnitIs Millimetre ∷ command.FormatIs nanometres ∷ command.Define 11 (template.Standard standard.Rectangle (pos 200000000 ∷ pos 100000000 ∷ [])) ∷ command.Select 11 ∷ command.Turn (pos 4500000000) ∷ []
+
+-- `X0Y0D03*` of a rectangle that is turned by 45 degrees: the disc inside of it
+pub turned_rectangle : AreWidePads (turned_box ++ flash 0 0 ∷ []) (Rounded (round (pos 0) (pos 0)) ∷ [])
+unfolding inner_primitive within_limit
+turned_rectangle =
+    let left : AreWidePadsOf turned_box (flash 0 0) (Rounded (round (pos 0) (pos 0)) ∷ []) =
+    (Millimetre, nanometres, aperture.Rectangle (pos 200000000) (pos 100000000) false, Some (round (pos 0) (pos 0)), record { outside = refl; in_unit = refl; in_format = refl; selected = refl }, (11, refl, refl), refl) in
+    ([], _, refl, refl, ([], _, refl, refl, ([], _, refl, refl, ([], _, refl, refl, ([], _, refl, refl, (_, [], refl, left, refl))))))
+
 -- `D10*`, `%LPC*%`, `X0Y0D03*`: in clear polarity nothing is a pad
 pub macro_in_clear : AreWidePads (start 49 ++ command.Select 10 ∷ command.Clear ∷ flash 0 0 ∷ []) []
 macro_in_clear = refl
 
 -- `X0Y0D03*`, `%LPC*%`, and then nothing: a flash has the polarity that stands before it
 pub disc_before_clear : AreWidePads (with_disc ++ flash 0 0 ∷ command.Clear ∷ []) (disc ∷ [])
+unfolding inner_primitive
 disc_before_clear =
     let left : AreWidePadsOf with_disc (flash 0 0) (disc ∷ []) =
     (Millimetre, nanometres, aperture.Circle (pos 50000000) false, None, record { outside = refl; in_unit = refl; in_format = refl; selected = refl }, (11, refl, refl), refl) in

@@ -1,52 +1,49 @@
 -- The pads among the flashes and contours of one command are those that it makes.
-use Rattle.layer_features.proofs.Common.{◌≡◌, ◌∙◌, ◌&&◌, ◌%◌, ◌==◌, not, ℤ, unsigned_abs, Bool, true, false, cond, List, [], ◌∷◌, ◌++◌, map, length, Option, None, Some, unwrap_or, refl, ap, arith, append-nil, if◌then◌else◌, option_map, option_map_or, int_eq, cons_option, filter_map, GridPoint, Millimetre, GridRounded, WidePad, Command, Format, unit_scale, Flash, added_flashes, aperture_flashes, copies_at, current_of, current_unit, disc_at, flash_at, flashes_of, obround_at, quarter, rect_at, swaps_sides, what_at, state_after, MayFlash, copies_in, shapes_at, broken_rule, Part, is_clear_after, contour_of, region_parts, contour_feature, dark_kind, features_at, flash_feature, pad_in, pads_of, CopperState, contours_in, copper_state_after, ended_regions, has_room, is_room, selected_shape, draw_state_after, macro_why, AreDarkPads, AreWidePadsOf, contour_after, contours_at, plot_state_after, wide_pad_at}
+use Rattle.layer_features.proofs.Common.{◌≡◌, ◌∙◌, ◌&&◌, not, ℤ, Bool, true, false, List, [], ◌∷◌, ◌++◌, map, length, Option, None, Some, unwrap_or, refl, ap, arith, append-nil, if◌then◌else◌, option_map, option_map_or, option_or, cons_option, filter_map, GridPoint, Millimetre, GridRounded, WidePad, Command, Format, Flash, added_flashes, aperture_flashes, copies_at, current_of, current_unit, flash_at, flashes_of, what_at, state_after, MayFlash, copies_in, shapes_at, broken_rule, Part, is_clear_after, contour_of, region_parts, contour_feature, dark_kind, features_at, flash_feature, other_kind, pad_in, pads_of, CopperState, contours_in, copper_state_after, ended_regions, flashed_pad, has_room, is_room, selected_shape, draw_state_after, AreDarkPads, AreWidePadsOf, contour_after, contours_at, plot_state_after, wide_pad_at}
 use Rattle.std.specs.Bool.{MatchBool}
 use Rattle.grid_units.specs.declared.lengths.Unit.{Unit as Units}
 use Rattle.pad_shapes.specs.declared.pad.Pad.{Pad}
-use Rattle.pad_shapes.specs.declared.pad.Pad.TheVariants as pads
+use Rattle.pad_shapes.specs.declared.row.Why.{Why}
 use Rattle.pad_shapes.specs.declared.row.Why.TheVariants as why
 use Rattle.pad_shapes.specs.declared.wide_pad.WidePad.TheVariants.{Plain, Rounded}
 use Rattle.gerber_commands.specs.declared.command.Action.TheVariants as action
 use Rattle.gerber_commands.specs.declared.command.Command.TheVariants as command
 use Rattle.gerber_commands.specs.declared.command.StepRepeat.{StepRepeat}
 use Rattle.layer_state.specs.declared.aperture.Aperture.{Aperture}
-use Rattle.layer_state.specs.declared.aperture.Aperture.TheVariants as aperture
+use Rattle.layer_state.specs.Flashes as flash_lists
+use Rattle.layer_state.specs.declared.flash.What.{What}
 use Rattle.layer_state.specs.declared.flash.What.TheVariants as what
 use Rattle.layer_features.specs.declared.feature.FeatureKind.TheVariants as kind
-use Rattle.layer_features.proofs.LegalFlashes.{IsDefined, copies_are, keeps_rule, may_flash, some_of, unit_is}
+use Rattle.layer_features.proofs.LegalFlashes.{IsDefined, copies_are, keeps_rule, may_flash, pad_is as plain_pad_is, some_of, unit_is}
 use Rattle.layer_features.proofs.PlotLemmas.{PartsAgree}
 use Rattle.layer_features.proofs.SelectedShapes.{shape_is_selected}
 
 -- ---- one flash
 
--- an aperture that makes a pad: scale and turn decide
-by_scale_and_turn : (s : CopperState) (p : GridPoint) (scaled turned : Bool) (pad : Pad)
-    → pad_in (dark_kind s p (option_map_or what.Other (cond (not scaled) (Some why.Scaled) (cond (not turned) (Some why.Turned) None)) (what.Pad pad))) ≡ option_map Plain (cond (scaled && turned) (Some pad) None)
-by_scale_and_turn s p true true pad = refl
-by_scale_and_turn s p true false pad = refl
-by_scale_and_turn s p false turned pad = refl
+-- what is no pad by its aperture nor by its shape is none
+no_pad : (s : CopperState) (reason : Why) → pad_in (other_kind s reason) ≡ None
+no_pad s why.Macro = refl
+no_pad s why.Polygon = refl
+no_pad s why.Holed = refl
+no_pad s why.Scaled = refl
+no_pad s why.Turned = refl
 
-no_pad : (b : Bool) → None ≡ option_map Plain (cond b None None)
-no_pad true = refl
-no_pad false = refl
-
-shape_pad : (s : CopperState) (o : Option GridRounded) → pad_in (option_map_or (λ pad. kind.Pad (Rounded pad)) o (kind.Macro (macro_why s))) ≡ option_map Rounded o
-shape_pad s None = refl
-shape_pad s (Some pad) = refl
+-- a flash leaves the pad of its aperture, and where it has none that of its shape
+pad_of : (s : CopperState) (p : GridPoint) (w : What) → pad_in (dark_kind s p w) ≡ option_or (option_map Plain (flash_lists.pad_in w)) (option_map Rounded (flashed_pad s p))
+pad_of s p (what.Pad pad) = refl
+pad_of s p (what.Other reason) = by (flashed_pad s p)
+  where
+    by : (o : Option GridRounded) → pad_in (option_map_or (λ pad. kind.Shape pad reason) o (other_kind s reason)) ≡ option_map Rounded o
+    by None = no_pad s reason
+    by (Some pad) = refl
 
 -- the flash of an aperture leaves the pad of the relation
 pad_is : (before : List Command) (unit : Units) (selected : Aperture) (p : GridPoint)
     → pad_in (dark_kind (copper_state_after before) p (what_at p unit (state_after before).scale (state_after before).turn selected)) ≡ wide_pad_at unit before selected (selected_shape (draw_state_after before)) p
-pad_is before unit aperture.Macro p = shape_pad (copper_state_after before) _
-pad_is before unit (aperture.Circle diameter false) p =
-    by_scale_and_turn (copper_state_after before) p (int_eq (state_after before).scale unit_scale) (unsigned_abs (state_after before).turn % quarter == 0) (pads.Disc (disc_at p unit diameter))
-pad_is before unit (aperture.Rectangle width height false) p =
-    by_scale_and_turn (copper_state_after before) p (int_eq (state_after before).scale unit_scale) (unsigned_abs (state_after before).turn % quarter == 0)
-    (pads.Rect (cond (swaps_sides (state_after before).turn) (rect_at p unit height width) (rect_at p unit width height)))
-pad_is before unit (aperture.Obround width height false) p =
-    by_scale_and_turn (copper_state_after before) p (int_eq (state_after before).scale unit_scale) (unsigned_abs (state_after before).turn % quarter == 0)
-    (pads.Obround (cond (swaps_sides (state_after before).turn) (obround_at p unit height width) (obround_at p unit width height)))
-pad_is before unit other p = no_pad (int_eq (state_after before).scale unit_scale && (unsigned_abs (state_after before).turn % quarter == 0))
+pad_is before unit selected p =
+    let s = copper_state_after before in
+    pad_of s p (what_at p unit (state_after before).scale (state_after before).turn selected)
+    ∙ ap (λ (o : Option Pad). option_or (option_map Plain o) (option_map Rounded (flashed_pad s p))) (plain_pad_is p unit (state_after before).scale (state_after before).turn selected)
 
 -- ---- the flashes of a command
 

@@ -17,7 +17,7 @@ use Rattle.gerber_commands.specs.declared.command.QuadrantMode.TheVariants as qu
 use Rattle.gerber_commands.specs.declared.command.Command.{Command}
 use Rattle.gerber_commands.specs.declared.command.Command.TheVariants as command
 use Rattle.gerber_commands.specs.Pieces.{unit_scale}
-use Rattle.layer_state.specs.Flashes.{current_decimals, current_unit}
+use Rattle.layer_state.specs.Flashes.{current_decimals, current_unit, is_macro}
 use Rattle.layer_state.specs.Lookback.{current_of, state_after}
 use Rattle.layer_state.specs.Numbers.{dec_length}
 use Rattle.layer_state.specs.Placing.{no_mirroring}
@@ -130,9 +130,13 @@ is_plain s = (int_eq s.now.scale unit_scale && int_eq s.now.turn (pos 0)) && not
 abbrev pub selected_shape : DrawState → Option GridRounded
 selected_shape s = option_and_then (λ (d : Defined). d.shape) s.aperture
 
--- the shape that is flashed with the selected aperture, while nothing is scaled, turned or mirrored
+-- the shape of an aperture that is a macro, where it has one (Gerber format, Aperture macro AM)
+abbrev pub shape_of_macro : Defined → Option GridRounded
+shape_of_macro d = if is_macro d.aperture then d.shape else None
+
+-- the shape that is flashed with the selected macro, while nothing is scaled, turned or mirrored
 abbrev pub flash_shape : DrawState → Option GridRounded
-flash_shape s = if is_plain s then selected_shape s else None
+flash_shape s = if is_plain s then option_and_then shape_of_macro s.aperture else None
 
 -- a corner about the point of a flash lies at most 10 m from zero along each axis
 abbrev pub stays_near : GridPoint → GridPoint → Bool

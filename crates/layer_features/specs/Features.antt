@@ -5,7 +5,6 @@ use Rattle.std.specs.List.{filter_map, flat_map}
 use Rattle.grid_units.specs.Points.{GridPoint}
 use Rattle.grid_units.specs.declared.profile.Profile.{Profile}
 use Rattle.grid_units.specs.declared.profile.Profile.TheVariants.{Strict, Wide}
-use Rattle.pad_shapes.specs.declared.pad.Pad.{Pad}
 use Rattle.pad_shapes.specs.Rounded.{GridRounded}
 use Rattle.pad_shapes.specs.declared.wide_pad.WidePad.{WidePad}
 use Rattle.pad_shapes.specs.declared.wide_pad.WidePad.TheVariants.{Plain, Rounded}
@@ -13,6 +12,7 @@ use Rattle.gerber_commands.specs.declared.command.Command.{Command}
 use Rattle.layer_state.specs.declared.flash.Flash.{Flash}
 use Rattle.layer_state.specs.declared.flash.What.{What}
 use Rattle.layer_state.specs.declared.flash.What.TheVariants as what
+use Rattle.pad_shapes.specs.declared.row.Why.{Why}
 use Rattle.pad_shapes.specs.declared.row.Why.TheVariants as why
 use Rattle.layer_state.specs.Lookback.{state_after}
 use Rattle.layer_state.specs.Flashes.{added_flashes, flashes_of}
@@ -28,11 +28,15 @@ use Rattle.layer_features.specs.FurtherPads.{CopperState, contours_in, copper_st
 
 -- ---- what a command adds
 
--- what a flash in dark polarity is: the flash of a macro is the pad of its shape, where there is one (Gerber format, Aperture macro AM)
+-- what a flash is that is no pad, neither by its aperture nor by its shape
+abbrev pub other_kind : CopperState → Why → FeatureKind
+other_kind s why.Macro = kind.Macro (macro_why s)
+other_kind s reason = kind.Other reason
+
+-- what a flash in dark polarity is: one that is no pad by its aperture is the pad of its shape, where it has one
 abbrev pub dark_kind : CopperState → GridPoint → What → FeatureKind
-dark_kind s at (what.Pad pad) = kind.Pad (Plain pad)
-dark_kind s at (what.Other why.Macro) = option_map_or (λ pad. kind.Pad (Rounded pad)) (flashed_pad s at) (kind.Macro (macro_why s))
-dark_kind s at (what.Other reason) = kind.Other reason
+dark_kind s at (what.Pad pad) = kind.Pad pad
+dark_kind s at (what.Other reason) = option_map_or (λ pad. kind.Shape pad reason) (flashed_pad s at) (other_kind s reason)
 
 -- a flash, which counts as no pad in clear polarity (Gerber format, Load polarity LP)
 abbrev pub flash_feature : CopperState → Flash → Feature
@@ -69,7 +73,7 @@ wide_features_of commands = filter_map taken_away (flat_map features_at (positio
 
 -- what a flash is in the strict profile, where a macro is no pad
 abbrev pub strict_kind : What → FeatureKind
-strict_kind (what.Pad pad) = kind.Pad (Plain pad)
+strict_kind (what.Pad pad) = kind.Pad pad
 strict_kind (what.Other reason) = kind.Other reason
 
 -- a flash of the strict profile
@@ -85,8 +89,8 @@ features_of Wide commands = wide_features_of commands
 
 -- what a flash of the wide profile is in the strict one, where nothing was drawn in clear polarity; a contour is no flash
 abbrev pub strict_kind_of : FeatureKind → Option FeatureKind
-strict_kind_of (kind.Pad (Plain pad)) = Some (kind.Pad (Plain pad))
-strict_kind_of (kind.Pad (Rounded pad)) = Some (kind.Other why.Macro)
+strict_kind_of (kind.Pad pad) = Some (kind.Pad pad)
+strict_kind_of (kind.Shape pad reason) = Some (kind.Other reason)
 strict_kind_of (kind.Macro reason) = Some (kind.Other why.Macro)
 strict_kind_of (kind.Other reason) = Some (kind.Other reason)
 strict_kind_of _ = None
@@ -108,7 +112,8 @@ view_in Wide features = features
 
 -- the pad that a flash or a contour is, if it is one
 abbrev pub pad_in : FeatureKind → Option WidePad
-pad_in (kind.Pad pad) = Some pad
+pad_in (kind.Pad pad) = Some (Plain pad)
+pad_in (kind.Shape pad reason) = Some (Rounded pad)
 pad_in (kind.Contour pad) = Some (Rounded pad)
 pad_in _ = None
 
@@ -116,9 +121,9 @@ pad_in _ = None
 abbrev pub pads_of : List Feature → List WidePad
 pads_of features = filter_map (λ f. pad_in f.what) features
 
--- the shape of a flash of a macro, if it is a pad
+-- the shape of a flash, most often of a macro, if it is a pad by that
 abbrev pub macro_pad : FeatureKind → Option WidePad
-macro_pad (kind.Pad (Rounded pad)) = Some (Rounded pad)
+macro_pad (kind.Shape pad reason) = Some (Rounded pad)
 macro_pad _ = None
 
 -- the pad of a contour, if it is one
@@ -126,7 +131,7 @@ abbrev pub contour_pad : FeatureKind → Option WidePad
 contour_pad (kind.Contour pad) = Some (Rounded pad)
 contour_pad _ = None
 
--- of the pads of the wide profile the shapes of macros that another profile does not count
+-- of the pads of the wide profile the shapes of flashes that another profile does not count
 abbrev pub uncounted_macros : Profile → List Feature → List WidePad
 uncounted_macros Strict features = filter_map (λ f. macro_pad f.what) features
 uncounted_macros Wide features = []
@@ -136,14 +141,10 @@ abbrev pub uncounted_contours : Profile → List Feature → List WidePad
 uncounted_contours Strict features = filter_map (λ f. contour_pad f.what) features
 uncounted_contours Wide features = []
 
--- the pad of a standard aperture, if it is one
-abbrev pub plain_pad : FeatureKind → Option Pad
-plain_pad (kind.Pad (Plain pad)) = Some pad
-plain_pad _ = None
-
 -- it is a flash that is a pad
 abbrev pub is_flashed_pad : FeatureKind → Bool
 is_flashed_pad (kind.Pad pad) = true
+is_flashed_pad (kind.Shape pad reason) = true
 is_flashed_pad _ = false
 
 -- it is a flash that is no pad
@@ -160,6 +161,7 @@ is_contour _ = false
 -- what a flash or a contour is, without its pad
 abbrev pub row_kind : FeatureKind → RowKind
 row_kind (kind.Pad pad) = row.Pad
+row_kind (kind.Shape pad reason) = row.Pad
 row_kind (kind.Contour pad) = row.Contour
 row_kind (kind.Other why) = row.Other why
 row_kind (kind.Macro why) = row.Other why

@@ -1,4 +1,4 @@
--- The further copper that counts as pads: the flashes of macros that have a shape, and the contours of regions that are convex polygons,
+-- The further copper that counts as pads: the flashes of apertures by their shapes, and the contours of regions that are convex polygons,
 -- each by the state that its command meets (docs/FORMATS.md, Further copper).
 use Rattle.std.specs.Prelude.{ℕ, ◌+◌, ℤ, Bool, not, ◌&&◌, ◌||◌, nat_le, List, [], Option, None, is_none, option_and_then, if◌then◌else◌}
 use Rattle.std.specs.Ordering.{int_eq}
@@ -23,7 +23,7 @@ use Rattle.layer_state.specs.declared.mirroring.Mirroring.{Mirroring}
 use Rattle.layer_features.specs.declared.part.Part.{Part}
 use Rattle.layer_features.specs.Blocks.{copy_count, in_open_block, is_repeated}
 use Rattle.layer_features.specs.Clearing.{draws, is_clear_after, is_clearing}
-use Rattle.layer_state.specs.Placing.{oriented_shape, shapes_at}
+use Rattle.layer_state.specs.Placing.{shapes_at, turned_shape}
 use Rattle.layer_features.specs.Contours.{PlotState, contour_of, region_parts}
 
 -- ---- the state that a command meets
@@ -63,11 +63,10 @@ copper_state_after before = record {
 
 -- ---- what a command adds
 
--- The shape of an aperture as it is flashed, about the point of the flash: mirrored first, and then turned by quarters. It is none where it is
--- scaled, or turned by other than quarters (Gerber format, Aperture transformations LP, LM, LR, LS).
+-- the shape of an aperture as it is flashed, about the point of the flash: mirrored first, and then turned; none where it is scaled (Gerber format, Aperture
+-- transformations LP, LM, LR, LS)
 abbrev pub shape_by : ℤ → ℤ → Mirroring → Option GridRounded → Option GridRounded
-shape_by scale turn mirroring shape =
-    if int_eq scale unit_scale then option_and_then (λ turns. option_and_then (oriented_shape mirroring turns) shape) (quarter_turns turn) else None
+shape_by scale turn mirroring shape = if int_eq scale unit_scale then option_and_then (turned_shape mirroring turn) shape else None
 
 -- the shape that the selected aperture flashes
 abbrev pub flash_shape : CopperState → Option GridRounded
@@ -81,7 +80,7 @@ why_of_shape s = if not (int_eq s.draw.now.scale unit_scale) then why.Scaled els
 abbrev pub macro_why : CopperState → Why
 macro_why s = if is_none (selected_shape s.draw) then why.Macro else why_of_shape s
 
--- the pad of the selected macro's flash at a point, where its shape may lie there
+-- the shape of the selected aperture's flash at a point, where it has one and this may lie there
 abbrev pub flashed_pad : CopperState → GridPoint → Option GridRounded
 flashed_pad s at = option_and_then (λ shape. shape_at shape at) (flash_shape s)
 

@@ -2,6 +2,7 @@
 -- is ever assumed.
 use Rattle.std.specs.Prelude.{◌≡◌, ◌&&◌, ◌==◌, ℕ, ℤ, List, [], ◌∷◌, ◌++◌, map, Option, None, Some, unwrap_or, option_and_then, option_map, if◌then◌else◌}
 use Rattle.std.specs.Bool.{MatchBool}
+use Rattle.std.specs.Option.{option_or}
 use Rattle.std.specs.List.{filter_map}
 use Rattle.grid_units.specs.Points.{GridPoint}
 use Rattle.grid_units.specs.Numbers.{picometres}
@@ -22,17 +23,16 @@ use Rattle.gerber_commands.specs.declared.command.Template.TheVariants as templa
 use Rattle.gerber_commands.specs.declared.command.Command.{Command}
 use Rattle.gerber_commands.specs.declared.command.Command.TheVariants as command
 use Rattle.layer_state.specs.declared.aperture.Aperture.{Aperture}
-use Rattle.layer_state.specs.declared.aperture.Aperture.TheVariants as aperture
 use Rattle.layer_state.specs.Lookback.{GraphicsState, aperture_selected, state_after, unit_set}
 use Rattle.layer_state.specs.Pads.{MayFlash, copies_in, flashed_at}
 use Rattle.layer_state.specs.Placing.{shapes_at}
-use Rattle.layer_state.specs.Shapes.{macro_set, primitives_shape, within_limits}
+use Rattle.layer_state.specs.Shapes.{macro_set, primitives_shape, standard_shape, within_limits}
 use Rattle.layer_features.specs.Clearing.{is_clear_after, positions_after_clearing}
 use Rattle.layer_features.specs.Contours.{PlotState, contour_of, region_parts}
 use Rattle.layer_features.specs.Drawn.{mirroring_after, mode_set, quadrant_set}
 use Rattle.layer_features.specs.FurtherPads.{ended_regions, is_room, shape_by}
 
--- ---- the shape of a macro
+-- ---- the shape of an aperture
 
 -- the shape of a macro of these pieces, in this unit, with the parameters of an aperture: that of its primitives, where it has one; none without a unit
 -- or pieces (Gerber format, Aperture macro AM)
@@ -45,11 +45,12 @@ abbrev pub template_set : ℕ → List Command × Command → Option (List Comma
 template_set number (before, command.Define other template) = if number == other then Some (before, template) else None
 template_set number _ = None
 
--- the shape of an aperture by its template: of a macro within the limits of numbers and bytes, by the unit and the pieces that stood where the aperture was defined; others have none
+-- the shape of an aperture by its template, by the unit where the aperture was defined: of a macro within the limits of numbers and bytes, by the pieces that stood there
 abbrev pub IsTemplateShape : ℕ → Option (List Command × Template) → Option GridRounded → Type 0
 IsTemplateShape number (Some (before, template.Named name parameters)) shape =
     IsMacroShape (last_set unit_set before) (within_limits number (last_set (macro_set name) before)) parameters shape
-IsTemplateShape number _ shape = shape ≡ None
+IsTemplateShape number (Some (before, template.Standard which sizes)) shape = shape ≡ standard_shape (last_set unit_set before) which sizes
+IsTemplateShape number None shape = shape ≡ None
 
 -- the shape of the aperture that is selected, by its last definition (Gerber format, Current aperture Dnn)
 abbrev pub IsSelectedShape : List Command → Option GridRounded → Type 0
@@ -58,12 +59,12 @@ IsSelectedShape before shape =
 
 -- ---- the pads of a flash
 
--- the pad of a flash at a point: of a macro its shape, mirrored, then turned, then moved there; of any other aperture the one of the strict profile
+-- the pad of a flash at a point: the one of the strict profile, and where it has none, the shape of its aperture, mirrored, then turned, then moved there
 -- (Gerber format, Aperture transformations LP, LM, LR, LS)
 abbrev pub wide_pad_at : Units → List Command → Aperture → Option GridRounded → GridPoint → Option WidePad
-wide_pad_at unit before aperture.Macro shape p =
-    option_map Rounded (option_and_then (λ t. shape_at t p) (shape_by (state_after before).scale (state_after before).turn (mirroring_after before) shape))
-wide_pad_at unit before other shape p = option_map Plain (flashed_at unit (state_after before) other p)
+wide_pad_at unit before selected shape p =
+    option_or (option_map Plain (flashed_at unit (state_after before) selected p))
+    (option_map Rounded (option_and_then (λ t. shape_at t p) (shape_by (state_after before).scale (state_after before).turn (mirroring_after before) shape)))
 
 -- the pads of a flash with these coordinates: of each copy, in order, the pad that it leaves there, if any (Gerber format, Operations D01, D02, D03)
 abbrev pub AreWideFlashPads : List Command → Option ℤ → Option ℤ → List WidePad → Type 0

@@ -10,14 +10,13 @@ ghost use Rattle.gerber_text.specs.FastPath.{text_command};
 ghost use Rattle.gerber_text.specs.declared.fast_path.LeadingOperation.{LeadingOperation as TheOperation};
 ghost use Rattle.gerber_text.specs.declared.text_items.TextKind.{TextKind as TheKind};
 ghost use Rattle.layer_state.specs.declared.flash.What.TheVariants as what;
-ghost use Rattle.pad_shapes.specs.declared.row.Why.TheVariants as reason;
 ghost use Rattle.layer_state.specs.Flashes.{added_flashes};
 ghost use Rattle.layer_state.specs.Lookback.{current_of, state_after};
 ghost use Rattle.layer_features.specs.Blocks.{copy_count, is_repeated};
 ghost use Rattle.layer_features.specs.DrawnCopper.{dark_part};
 ghost use Rattle.layer_features.specs.Inner.Steps.{max_regions};
 ghost use Rattle.layer_features.specs.FurtherPads.{CopperState, clears_in, contours_in, ended_copies, flash_shape, has_room, macro_why, region_contour};
-ghost use Rattle.layer_features.specs.Features.{contour_feature, dark_kind, flash_feature, taken_away};
+ghost use Rattle.layer_features.specs.Features.{contour_feature, dark_kind, flash_feature, other_kind, taken_away};
 ghost use Rattle.layer_features.specs.Kept.{AddsFeatures, KeepsFeatures, left_pads};
 ghost use Rattle.layer_features.specs.declared.keep.Keep.{Keep as TheKeep};
 ghost use Rattle.layer_features.specs.declared.feature.Feature.{Feature as TheFeature};
@@ -36,7 +35,7 @@ use crate::part::{Part, add_operation, add_parts};
 use crate::plotter::{Pencil, Plotter, Setting};
 use gerber_text::{Command, Interpolation, LeadingOperation, StepRepeat};
 use grid_units::Point;
-use layer_state::{Current, Flash, ONE, What, oriented, quarter_turns};
+use layer_state::{Current, Flash, ONE, What, quarter_turns, turned_shape};
 use pad_shapes::{Drawn, PlacedRounded, SharedRounded, Why, WidePad};
 use std::alloc::{AllocError, Global};
 
@@ -333,11 +332,9 @@ impl Copper {
         if setting.current.scale.units() != ONE {
             return Ok(None);
         }
-        let Some(turns) = quarter_turns(setting.current.turn) else {
-            return Ok(None);
-        };
+        let turn = setting.current.turn;
         match setting.shape() {
-            Some(shape) => oriented(self.alloc, self.plotter.mirroring, turns, shape),
+            Some(shape) => turned_shape(self.alloc, self.plotter.mirroring, turn, shape),
             None => Ok(None),
         }
     }
@@ -470,7 +467,7 @@ fn is_repeated(block: StepRepeat) -> bool
     copy_count(block) > 1
 }
 
-/// The pad of a macro's shape at a point, where it may lie there.
+/// The pad of a shape at a point, where there is one and it may lie there.
 fn flashed_pad(
     shape: &Option<SharedRounded>,
     at: Point,
@@ -483,17 +480,32 @@ fn flashed_pad(
     }
 }
 
-/// What a macro's flash in dark polarity is, by the shape of the macro if it has one, and by why it is no pad where it is none.
-fn macro_kind(shape: &Option<SharedRounded>, why: Why, at: Point) -> Result<FeatureKind, AllocError>
-    ensures { (s : CopperState) → shape.now ≡ flash_shape s → why ≡ macro_why s → IfOk result (λ kind. kind ≡ dark_kind s at (what.Other reason.Macro)) }
+/// What a flash is that is no pad, neither by its aperture nor by its shape, by why the flash of a macro is none.
+fn other_kind(why: Why, reason: Why) -> FeatureKind
+    ensures { (s : CopperState) → why ≡ macro_why s → result ≡ other_kind s reason }
 {
-    match flashed_pad(shape, at)? {
-        Some(pad) => Ok(FeatureKind::Pad(WidePad::Rounded(pad))),
-        None => Ok(FeatureKind::Macro(why)),
+    match reason {
+        Why::Macro => FeatureKind::Macro(why),
+        Why::Polygon | Why::Holed | Why::Scaled | Why::Turned => FeatureKind::Other(reason),
     }
 }
 
-/// What a flash in dark polarity is, by the shape of its macro if it has one, and by why one of that macro is no pad.
+/// What a flash in dark polarity is that is no pad by its aperture for this reason, by its shape if it has one.
+fn shaped_kind(
+    shape: &Option<SharedRounded>,
+    why: Why,
+    reason: Why,
+    at: Point,
+) -> Result<FeatureKind, AllocError>
+    ensures { (s : CopperState) → shape.now ≡ flash_shape s → why ≡ macro_why s → IfOk result (λ kind. kind ≡ dark_kind s at (what.Other reason)) }
+{
+    match flashed_pad(shape, at)? {
+        Some(pad) => Ok(FeatureKind::Shape(pad, reason)),
+        None => Ok(other_kind(why, reason)),
+    }
+}
+
+/// What a flash in dark polarity is, by the shape of its aperture if it has one, and by why the flash of a macro is no pad.
 fn dark_kind(
     shape: &Option<SharedRounded>,
     why: Why,
@@ -502,13 +514,12 @@ fn dark_kind(
     ensures { (s : CopperState) → shape.now ≡ flash_shape s → why ≡ macro_why s → IfOk result (λ kind. kind ≡ dark_kind s flash.now.at flash.now.what) }
 {
     match flash.what {
-        What::Pad(pad) => Ok(FeatureKind::Pad(WidePad::Plain(pad))),
-        What::Other(Why::Macro) => macro_kind(shape, why, flash.at),
-        What::Other(reason) => Ok(FeatureKind::Other(reason)),
+        What::Pad(pad) => Ok(FeatureKind::Pad(pad)),
+        What::Other(reason) => shaped_kind(shape, why, reason, flash.at),
     }
 }
 
-/// A flash, by its polarity, the shape of its macro if it has one, and why one of that macro is no pad.
+/// A flash, by its polarity, the shape of its aperture if it has one, and why the flash of a macro is no pad.
 fn flash_feature(
     is_clear: bool,
     shape: &Option<SharedRounded>,
@@ -525,7 +536,24 @@ fn flash_feature(
     Ok(Feature { at: flash.at, what })
 }
 
-/// Adds flashes, by their polarity, the shape of their macro if they have one, and why one of that macro is no pad.
+/// Adds a flash, by its polarity, the shape of its aperture if it has one, and why the flash of a macro is no pad.
+fn add_flash(
+    kept: &mut KeptFeatures,
+    is_clear: bool,
+    shape: &Option<SharedRounded>,
+    why: Why,
+    flash: &Flash,
+) -> Result<(), AllocError>
+    ensures kept { (s : CopperState) → is_clear ≡ s.clearing.clear → shape.now ≡ flash_shape s → why ≡ macro_why s → AddsFeatures result kept.old kept.new (flash_feature s flash.now ∷ []) }
+    ensures rows { kept.new.rows ≡ kept.old.rows }
+{
+    match flash.what {
+        What::Pad(pad) if !is_clear && !kept.rows => kept.add_plain(pad),
+        _ => kept.add(flash_feature(is_clear, shape, why, flash)?),
+    }
+}
+
+/// Adds flashes, by their polarity, the shape of their aperture if it has one, and why the flash of a macro is no pad.
 fn add_flashes(
     kept: &mut KeptFeatures,
     is_clear: bool,
@@ -537,7 +565,7 @@ fn add_flashes(
     ensures rows { kept.new.rows ≡ kept.old.rows }
 {
     for flash in flashes {
-        kept.add(flash_feature(is_clear, shape, why, flash)?)?;
+        add_flash(kept, is_clear, shape, why, flash)?;
     }
     Ok(())
 }

@@ -4,7 +4,7 @@ ghost use Rattle.std.specs.Prelude.{◌≡◌, ◌+◌, ◌++◌, [], ◌∷◌,
 ghost use Rattle.std.specs.List.{filter_map};
 ghost use Rattle.layer_features.specs.Features.{counts_of, taken_away};
 ghost use Rattle.grid_units.specs.Points.{GridPoint};
-ghost use Rattle.pad_shapes.specs.declared.wide_pad.WidePad.{WidePad as ThePad};
+ghost use Rattle.pad_shapes.specs.declared.pad.Pad.{Pad as ThePad};
 ghost use Rattle.layer_features.specs.declared.feature.Feature.{Feature as TheFeature};
 ghost use Rattle.layer_features.specs.declared.feature.FeatureKind.TheVariants as kind;
 
@@ -33,7 +33,7 @@ fn sum(a: usize, b: usize) -> Result<usize, AllocError>
 }
 
 impl FeatureCounts {
-    /// The counts with one more flash that is a pad.
+    /// The counts with one more flash that is a pad of a standard aperture.
     #[inline]
     pub(crate) fn with_pad(self) -> Result<FeatureCounts, AllocError>
         ensures { (features : List TheFeature) (at : GridPoint) (pad : ThePad) → self ≡ counts_of features → IfOk result (λ counts. counts ≡ counts_of (features ++ record { at = at; what = kind.Pad pad } ∷ [])) }
@@ -48,7 +48,9 @@ impl FeatureCounts {
     {
         let mut counts = self;
         match &feature.what {
-            FeatureKind::Pad(_) => counts.flashed = sum(self.flashed, 1)?,
+            FeatureKind::Pad(_) | FeatureKind::Shape(_, _) => {
+                counts.flashed = sum(self.flashed, 1)?
+            }
             FeatureKind::Contour(_) => counts.contours = sum(self.contours, 1)?,
             FeatureKind::Other(_)
             | FeatureKind::Macro(_)

@@ -4,14 +4,16 @@ ghost use Rattle.std.specs.Prelude.{◌≡◌, IfOk};
 ghost use Rattle.layer_features.specs.Features.{feature_row, pad_in, pads_of, row_kind, strict_feature_of, strict_kind_of, strict_view, taken_away, taken_kind};
 
 use grid_units::Point;
-use pad_shapes::{FeatureRow, PlacedRounded, RowKind, Why, WidePad};
+use pad_shapes::{FeatureRow, Pad, PlacedRounded, RowKind, Why, WidePad};
 use std::alloc::{AllocError, Global};
 
 /// What a flash or a contour is once the whole layer is drawn.
 #[derive(Debug, Drop)]
 pub enum FeatureKind {
-    /// A flash that is a pad.
-    Pad(WidePad),
+    /// A flash that is a pad of a standard aperture.
+    Pad(Pad),
+    /// A flash that is a pad by the shape of its aperture, and why it is none in the strict profile.
+    Shape(PlacedRounded, Why),
     /// A contour that is a pad.
     Contour(PlacedRounded),
     /// A flash of a standard aperture that is no pad, and why. In the strict profile also one of a macro.
@@ -37,7 +39,7 @@ impl FeatureKind {
         ensures { result ≡ row_kind self.now }
     {
         match self {
-            FeatureKind::Pad(_) => RowKind::Pad,
+            FeatureKind::Pad(_) | FeatureKind::Shape(_, _) => RowKind::Pad,
             FeatureKind::Contour(_) => RowKind::Contour,
             FeatureKind::Other(why) | FeatureKind::Macro(why) => RowKind::Other(*why),
             FeatureKind::Clear => RowKind::Clear,
@@ -50,7 +52,8 @@ impl FeatureKind {
         ensures { result ≡ pad_in self }
     {
         match self {
-            FeatureKind::Pad(pad) => Some(pad),
+            FeatureKind::Pad(pad) => Some(WidePad::Plain(pad)),
+            FeatureKind::Shape(pad, _) => Some(WidePad::Rounded(pad)),
             FeatureKind::Contour(pad) => Some(WidePad::Rounded(pad)),
             FeatureKind::Other(_)
             | FeatureKind::Macro(_)
@@ -67,21 +70,21 @@ impl FeatureKind {
             FeatureKind::Contour(_) => None,
             FeatureKind::Clear => Some(FeatureKind::Clear),
             FeatureKind::Pad(_)
+            | FeatureKind::Shape(_, _)
             | FeatureKind::Other(_)
             | FeatureKind::Macro(_)
             | FeatureKind::Cleared => Some(FeatureKind::Cleared),
         }
     }
 
-    /// What the strict profile says of it, where nothing was drawn in clear polarity: a macro is no pad, and a contour is no flash.
+    /// What the strict profile says of it, where nothing was drawn in clear polarity: no shape is a pad, and a contour is no flash.
     fn in_strict(&self) -> Option<FeatureKind>
         ensures { result ≡ strict_kind_of self.now }
     {
         match self {
-            FeatureKind::Pad(WidePad::Plain(pad)) => Some(FeatureKind::Pad(WidePad::Plain(*pad))),
-            FeatureKind::Pad(WidePad::Rounded(_)) | FeatureKind::Macro(_) => {
-                Some(FeatureKind::Other(Why::Macro))
-            }
+            FeatureKind::Pad(pad) => Some(FeatureKind::Pad(*pad)),
+            FeatureKind::Macro(_) => Some(FeatureKind::Other(Why::Macro)),
+            FeatureKind::Shape(_, why) => Some(FeatureKind::Other(*why)),
             FeatureKind::Other(why) => Some(FeatureKind::Other(*why)),
             FeatureKind::Contour(_) | FeatureKind::Clear | FeatureKind::Cleared => None,
         }

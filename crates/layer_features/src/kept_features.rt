@@ -6,7 +6,6 @@ ghost use Rattle.grid_units.specs.Points.{GridPoint};
 ghost use Rattle.pad_shapes.specs.declared.wide_pad.WidePad.{WidePad as ThePad};
 ghost use Rattle.layer_features.specs.Features.{pad_in, taken_away};
 ghost use Rattle.layer_features.specs.Kept.{AddsFeatures, first_taken_away};
-ghost use Rattle.pad_shapes.specs.declared.wide_pad.WidePad.TheVariants.{Plain};
 ghost use Rattle.layer_features.specs.declared.feature.Feature.{Feature as TheFeature};
 ghost use Rattle.layer_features.specs.declared.feature.FeatureKind.TheVariants as kind;
 
@@ -74,7 +73,7 @@ impl KeptFeatures {
     #[inline]
     pub(crate) fn add_plain(&mut self, pad: Pad) -> Result<(), AllocError>
         requires { self.old.rows ≡ false }
-        ensures kept { (at : GridPoint) → AddsFeatures result self.old self.new (record { at = at; what = kind.Pad (Plain pad) } ∷ []) }
+        ensures kept { (at : GridPoint) → AddsFeatures result self.old self.new (record { at = at; what = kind.Pad pad } ∷ []) }
         ensures rows { self.new.rows ≡ self.old.rows }
     {
         self.pads.push(WidePad::Plain(pad))?;

@@ -8,7 +8,7 @@ ghost use Rattle.grid_units.specs.Points.{IsCoordinate};
 ghost use Rattle.layer_state.specs.Numbers.{dec_length};
 ghost use Rattle.layer_state.specs.declared.tables.Defined.{Defined as TheDefined};
 ghost use Rattle.pad_shapes.specs.declared.drawn.Drawn.TheVariants as drawn;
-ghost use Rattle.layer_features.specs.Drawn.{arc_between, arc_centre, bend_between, current_point, draw_state_after, drawn_by, flash_of, flash_shape, drawn_by_flash, inside_region, is_plain, line_width, with_offset, near, next_part, drawn_by_operation, operation_point, drawn_by_plot, point_of, stays_near, width_of};
+ghost use Rattle.layer_features.specs.Drawn.{arc_between, arc_centre, bend_between, current_point, draw_state_after, drawn_by, flash_of, flash_shape, drawn_by_flash, inside_region, is_plain, line_width, with_offset, near, next_part, drawn_by_operation, operation_point, drawn_by_plot, point_of, shape_of_macro, stays_near, width_of};
 ghost use Rattle.layer_features.specs.Inner.Plotters.{Selection, after_command, draw_state, pencil_state, selection, selection_after};
 
 use gerber_text::{Action, Command, Interpolation, QuadrantMode};
@@ -37,6 +37,17 @@ impl Setting<'_> {
         ensures { option_copied result ≡ option_and_then (λ (d : TheDefined). d.shape) (selection self.now).aperture }
     {
         self.aperture()?.shape.as_ref()
+    }
+
+    /// Its shape, where it is a macro and has one.
+    fn macro_shape(&self) -> Option<&SharedRounded>
+        ensures { option_copied result ≡ option_and_then shape_of_macro (selection self.now).aperture }
+    {
+        let defined = self.aperture()?;
+        match defined.aperture {
+            Aperture::Macro => defined.shape.as_ref(),
+            _ => None,
+        }
     }
 }
 
@@ -211,12 +222,12 @@ impl Pencil<'_> {
             && !(self.plotter.mirroring.x || self.plotter.mirroring.y)
     }
 
-    /// The shape that is flashed with the selected aperture, while nothing is scaled, turned or mirrored.
+    /// The shape that is flashed with the selected macro, while nothing is scaled, turned or mirrored.
     fn flash_shape(&self) -> Option<&SharedRounded>
         ensures { option_copied result ≡ flash_shape (pencil_state self.now) }
     {
         if self.is_plain() {
-            self.setting.shape()
+            self.setting.macro_shape()
         } else {
             None
         }

@@ -6,7 +6,7 @@ pub use Rattle.gerber_text.proofs.SpellsTextLemmas.{reads_spells, spells_reads}
 pub use Rattle.gerber_text.specs.Cut.{OffsetByte, bytes_of, first_offset, has_end, offset_bytes}
 pub use Rattle.gerber_text.specs.FastPath.{text_command}
 pub use Rattle.gerber_text.specs.Holding.{FailedIn, FailsWithIn, StandsIn, held_entries, passed_entries, passed_text, text_entries}
-pub use Rattle.gerber_text.specs.Reading.{Entries, ReadsIn, ShowsIn, SpellsBeforeFaultIn, SpellsPrefixIn, after_end, commands_by, entries_after, is_blank, is_plotting, may_follow, item_entries, read_by, shown_by}
+pub use Rattle.gerber_text.specs.Reading.{Entries, ReadsIn, ShowsIn, SpellsBeforeFaultIn, SpellsPrefixIn, after_end, commands_by, entries_after, is_blank, latest_action, may_follow, item_entries, read_by, shown_by}
 unfoldable pub use Rattle.gerber_text.specs.Reading.{spelled_in}
 pub use Rattle.gerber_text.specs.Writing.{sayable, without_places}
 pub use Rattle.gerber_text.specs.declared.placed.Placed.{Placed}

@@ -3,7 +3,7 @@ use Rattle.layer_image.proofs.Common.{◌≡◌, ◌∙◌, ◌&&◌, ◌||◌, 
 use Rattle.std.specs.Prelude.{option_map}
 use Rattle.grid_units.proofs.BoolLemmas.{both_true, or_is_false}
 use Rattle.pad_shapes.specs.Rounded.{GridRounded}
-use Rattle.pad_shapes.specs.declared.wide_pad.WidePad.TheVariants.{Rounded}
+use Rattle.pad_shapes.specs.declared.row.Why.{Why}
 use Rattle.gerber_commands.specs.declared.command.Command.TheVariants as command
 use Rattle.gerber_text.specs.Sayable.{has_valid_fields, is_finish, is_sayable}
 use Rattle.gerber_text.proofs.ProfileLemmas.{spells_more}
@@ -17,7 +17,8 @@ use Rattle.pad_shapes.specs.declared.row.Why.TheVariants as why
 use Rattle.layer_features.specs.Clearing.{is_clear_after}
 use Rattle.layer_features.specs.Drawn.{draw_state_after, drawn_by, drawn_of}
 use Rattle.layer_features.specs.DrawnCopper.{drawn_at, uncleared_drawn}
-use Rattle.layer_features.specs.FurtherPads.{CopperState, contours_in, copper_state_after, flashed_pad, macro_why}
+use Rattle.layer_features.specs.Features.{other_kind}
+use Rattle.layer_features.specs.FurtherPads.{CopperState, contours_in, copper_state_after, flashed_pad}
 use Rattle.layer_features.proofs.ClearingLemmas.{all_uncleared, is_clear, stays_dark_after}
 use Rattle.layer_features.proofs.DarkLayers.{all_features}
 use Rattle.layer_image.proofs.KeptLemmas.{plain_of_flashes}
@@ -45,15 +46,15 @@ no_contours (p ∷ ps) = no_contours ps
 -- what the strict profile says of a flash in dark polarity
 strict_flash : (s : CopperState) (at : GridPoint) (w : What) → strict_kind_of (dark_kind s at w) ≡ Some (strict_kind w)
 strict_flash s at (what.Pad pad) = refl
-strict_flash s at (what.Other why.Macro) = by (flashed_pad s at)
+strict_flash s at (what.Other reason) = by (flashed_pad s at) reason
   where
-    by : (o : Option GridRounded) → strict_kind_of (option_map_or (λ pad. kind.Pad (Rounded pad)) o (kind.Macro (macro_why s))) ≡ Some (kind.Other why.Macro)
-    by (Some pad) = refl
-    by None = refl
-strict_flash s at (what.Other why.Polygon) = refl
-strict_flash s at (what.Other why.Holed) = refl
-strict_flash s at (what.Other why.Scaled) = refl
-strict_flash s at (what.Other why.Turned) = refl
+    by : (o : Option GridRounded) (r : Why) → strict_kind_of (option_map_or (λ pad. kind.Shape pad r) o (other_kind s r)) ≡ Some (kind.Other r)
+    by (Some pad) r = refl
+    by None why.Macro = refl
+    by None why.Polygon = refl
+    by None why.Holed = refl
+    by None why.Scaled = refl
+    by None why.Turned = refl
 
 strict_flashes : (s : CopperState) (flashes : List Flash) → s.clearing.clear ≡ false → strict_view (map (flash_feature s) flashes) ≡ map strict_feature flashes
 strict_flashes s [] dark = refl

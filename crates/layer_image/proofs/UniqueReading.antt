@@ -1,5 +1,5 @@
 -- A text reads in one way.
-use Rattle.layer_image.proofs.Common.{◌≡◌, ◌⊎◌, inl, inr, ℕ, zero, suc, ◌≤◌, ◌+◌, List, [], ◌∷◌, ◌++◌, length, take, drop, Option, Some, None, Bool, true, false, cond, Result, Ok, Err, refl, sym, ap, subst, ◌∙◌, nat_lt, arith, append_assoc, append-nil, list_all, take-append-drop, length-take-le, IsLegal, ◌>>=◌, fault, with_place, Fault, Reason, bind_ok, bind_err, Profile, Command, OffsetByte, offset_bytes, bytes_of, first_offset, has_end, Entries, SpellsPrefixIn, spelled_in, ReadsIn, after_end, commands_by, is_blank, is_plotting, may_follow, item_entries, read_by, shown_by, spells_reads, IsFirstFault, LayerImage, ReadsLayerIn, image_of, broken_rule, text_limit, item_limit, without_places}
+use Rattle.layer_image.proofs.Common.{◌≡◌, ◌⊎◌, inl, inr, ℕ, zero, suc, ◌≤◌, ◌+◌, List, [], ◌∷◌, ◌++◌, length, take, drop, Option, Some, None, Bool, true, false, cond, Result, Ok, Err, refl, sym, ap, subst, ◌∙◌, nat_lt, arith, append_assoc, append-nil, list_all, take-append-drop, length-take-le, IsLegal, ◌>>=◌, fault, with_place, Fault, Reason, bind_ok, bind_err, Profile, Command, OffsetByte, offset_bytes, bytes_of, first_offset, has_end, Entries, SpellsPrefixIn, spelled_in, ReadsIn, after_end, commands_by, is_blank, latest_action, may_follow, item_entries, read_by, shown_by, spells_reads, IsFirstFault, LayerImage, ReadsLayerIn, image_of, broken_rule, text_limit, item_limit, without_places}
 use Rattle.std.proofs.lemmas.Bool.{cases_lt}
 use Rattle.grid_units.specs.declared.fault.Reason.TheVariants.{TooLong, AfterEnd, Truncated}
 use Rattle.gerber_text.specs.Meaning.{meaning_in}
@@ -46,7 +46,7 @@ within_ok false m reason place byte before cs e =
 
 spelled_ok : (profile : Profile) (place byte : ℕ) (bytes : List ℕ) (before cs : Entries) → spelled_in profile place byte bytes before ≡ Ok cs → (ds : Entries) × (cs ≡ before ++ ds)
 unfolding spelled_in
-spelled_ok profile place byte bytes before cs h = within_ok (nat_lt item_limit (length bytes)) (meaning_in profile (is_plotting before) bytes) TooLong place byte before cs (at_ok place byte _ cs h)
+spelled_ok profile place byte bytes before cs h = within_ok (nat_lt item_limit (length bytes)) (meaning_in profile (latest_action before) bytes) TooLong place byte before cs (at_ok place byte _ cs h)
 
 -- later items add their commands after those of earlier ones
 commands_grow : (profile : Profile) (place : ℕ) (items : List (List OffsetByte)) (before cs : Entries) → commands_by profile place items before ≡ Ok cs → (ds : Entries) × (cs ≡ before ++ ds)

@@ -45,8 +45,8 @@ impl Met {
     }
 
     /// Checks an operation that a reader has passed, and takes it in.
-    // Apart from those that pass, which need not keep what was said before.
-    #[inline(never)]
+    // In line, since a call would take what the reader holds of each operation through memory, of those that pass too.
+    #[inline(always)]
     fn add_operation(&mut self, passed: &PassedOperation) -> Result<(), Fail>
         ensures ok { (keep : TheKeep) (taken : List ThePad) (before : Entries) → HasMetLegal keep taken self.old before → OnOk result (HasMetLegal keep taken self.new (before ++ passed_entries passed.now)) }
         ensures refused { (keep : TheKeep) (taken : List ThePad) (before : Entries) → HasMetLegal keep taken self.old before → IfErr result (IfFault (IsFirstFault (before ++ passed_entries passed.now))) }

@@ -12,7 +12,7 @@ use std::alloc::{AllocError, Global};
 /// The pads of a layer that its profile does not count, in the order of the text.
 #[derive(Drop)]
 pub struct Uncounted {
-    /// The shapes of flashes of macros.
+    /// The shapes of flashes, most of them of macros.
     pub macros: Vec<WidePad>,
     /// The contours of regions.
     pub contours: Vec<WidePad>,
@@ -68,9 +68,9 @@ fn add_uncounted(found: &mut Uncounted, what: FeatureKind) -> Result<(), AllocEr
     ensures contours { OnOk result (found.new.contours.items ≡ found.old.contours.items ++ cons_option (contour_pad what) []) }
 {
     match what {
-        FeatureKind::Pad(WidePad::Rounded(pad)) => found.macros.push(WidePad::Rounded(pad))?,
+        FeatureKind::Shape(pad, _) => found.macros.push(WidePad::Rounded(pad))?,
         FeatureKind::Contour(pad) => found.contours.push(WidePad::Rounded(pad))?,
-        FeatureKind::Pad(WidePad::Plain(_))
+        FeatureKind::Pad(_)
         | FeatureKind::Other(_)
         | FeatureKind::Macro(_)
         | FeatureKind::Clear

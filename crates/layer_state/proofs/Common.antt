@@ -3,7 +3,7 @@ pub use Rattle.std.proofs.Common.{Bool, Err, FitsSigned, IfOk, List, None, Ok, O
 pub use Rattle.gerber_commands.specs.declared.command.Action.{Action}
 pub use Rattle.gerber_commands.specs.declared.command.Command.{Command}
 pub use Rattle.gerber_commands.specs.declared.command.Command.TheVariants.{Mode, Operate}
-pub use Rattle.gerber_text.specs.Reading.{Entries, ReadsIn, SpellsPrefixIn, after_end, commands_by, is_blank, is_plotting, may_follow, item_entries, read_by, shown_by, spelled_in}
+pub use Rattle.gerber_text.specs.Reading.{Entries, ReadsIn, SpellsPrefixIn, after_end, commands_by, is_blank, latest_action, may_follow, item_entries, read_by, shown_by, spelled_in}
 pub use Rattle.gerber_text.specs.Writing.{without_places}
 pub use Rattle.gerber_text.specs.declared.placed.Placed.{Placed}
 pub use Rattle.grid_units.proofs.BoolLemmas.{and_false, both_true, or_is_false}

@@ -19,7 +19,7 @@ keeps_pads keep.All = true
 keeps_pads keep.Flashes = false
 keeps_pads keep.Pads = true
 
--- the macros, and the shapes that they give apertures, are kept
+-- the macros and the shapes of apertures are kept
 abbrev pub keeps_shapes : FlashKeep → Bool
 keeps_shapes keep.Flashes = true
 keeps_shapes _ = false

@@ -1,19 +1,22 @@
--- The macros that the commands of a layer define, and the shapes that they give its apertures (docs/FORMATS.md, Further copper).
-use Rattle.std.specs.Prelude.{ℕ, nat_eq, nat_le, ◌+◌, ◌&&◌, ◌==◌, List, length, sum_by, Option, None, Some, if◌then◌else◌}
+-- The macros that the commands of a layer define, and the shapes of its apertures (docs/FORMATS.md, Further copper).
+use Rattle.std.specs.Prelude.{ℕ, nat_eq, nat_le, ◌+◌, ℤ, pos, ◌&&◌, ◌==◌, List, [], ◌∷◌, length, sum_by, Option, None, Some, if◌then◌else◌}
 use Rattle.std.specs.Option.{option_and_then}
 use Rattle.std.specs.Cmp.Lexicographic.{pointwise}
 use Rattle.grid_units.specs.Lists.{last_set, with_prefixes}
 use Rattle.grid_units.specs.declared.lengths.Unit.{Unit as Units}
 use Rattle.pad_shapes.specs.Rounded.{GridRounded}
-use Rattle.macro_shapes.specs.Primitives.{primitives_of}
+use Rattle.macro_shapes.specs.Primitives.{primitives_of, turned_rectangle}
 use Rattle.macro_shapes.specs.Shapes.{shape_of}
 use Rattle.macro_shapes.specs.Macros.{fields_of}
 use Rattle.macro_shapes.specs.declared.fields.Fields.{Fields}
+use Rattle.macro_shapes.specs.declared.primitive.Primitive.{Primitive}
+use Rattle.gerber_commands.specs.declared.command.Standard.{Standard}
+use Rattle.gerber_commands.specs.declared.command.Standard.TheVariants as standard
 use Rattle.gerber_commands.specs.declared.command.Template.{Template}
 use Rattle.gerber_commands.specs.declared.command.Template.TheVariants as template
 use Rattle.gerber_commands.specs.declared.command.Command.{Command}
 use Rattle.gerber_commands.specs.declared.command.Command.TheVariants as command
-use Rattle.layer_state.specs.Lookback.{aperture_of, aperture_selected, unit_set}
+use Rattle.layer_state.specs.Lookback.{aperture_of, aperture_selected, has_hole, size_at, unit_set}
 use Rattle.layer_state.specs.declared.tables.Defined.{Defined}
 
 -- the pieces of the macro that a command defines under this name: `%AMROUND*1,1,$1,0,0*%` (Gerber format, Aperture macro AM)
@@ -39,14 +42,25 @@ abbrev pub by_macro : Option Units → Option (List (List ℕ)) → Option (List
 by_macro (Some unit) (Some pieces) parameters = primitives_shape unit (fields_of pieces parameters)
 by_macro _ _ parameters = None
 
--- the shape of the aperture of a number, by the unit and the macros before it: that of its macro (Gerber format, Aperture macro AM)
-abbrev pub macro_shape : Option Units → (List ℕ → Option (List (List ℕ))) → ℕ → Template → Option GridRounded
-macro_shape unit macros number (template.Named name parameters) = by_macro unit (within_limits number (macros name)) parameters
-macro_shape unit macros number _ = None
+-- the dark primitive inside of a standard aperture without a hole, however it is turned: of an obround as of a rectangle (Gerber format, Rectangle;
+-- Obround)
+unfoldable pub inner_primitive : Units → Standard → List ℤ → Option Primitive
+inner_primitive unit standard.Circle sizes = None
+inner_primitive unit standard.Polygon sizes = None
+inner_primitive unit _ sizes = if has_hole sizes 2 then None else turned_rectangle unit (size_at sizes 0) (size_at sizes 1) (pos 0) (pos 0)
+
+-- the shape of a standard aperture: that of the primitive inside of it, where it has one and a unit was named before it
+abbrev pub standard_shape : Option Units → Standard → List ℤ → Option GridRounded
+standard_shape unit which sizes = option_and_then (λ q. shape_of (q ∷ [])) (option_and_then (λ u. inner_primitive u which sizes) unit)
+
+-- the shape inside of the aperture of a number, by the unit and the macros before it (Gerber format, Aperture definition AD)
+abbrev pub inner_shape : Option Units → (List ℕ → Option (List (List ℕ))) → ℕ → Template → Option GridRounded
+inner_shape unit macros number (template.Named name parameters) = by_macro unit (within_limits number (macros name)) parameters
+inner_shape unit macros number (template.Standard which sizes) = standard_shape unit which sizes
 
 -- the aperture that a command gives this number, with its shape: `%ADD10C,0.5*%` gives one to 10 (Gerber format, Aperture definition AD)
 abbrev pub defined_set : Option Units → (List ℕ → Option (List (List ℕ))) → ℕ → Command → Option Defined
-defined_set unit macros n (command.Define m t) = if n == m then Some (record { aperture = aperture_of t; shape = macro_shape unit macros m t }) else None
+defined_set unit macros n (command.Define m t) = if n == m then Some (record { aperture = aperture_of t; shape = inner_shape unit macros m t }) else None
 defined_set unit macros n _ = None
 
 -- the aperture of a number is that of its last definition, and its macro the one that its name had there (Gerber format, Aperture definition AD)

@@ -51,7 +51,7 @@ fn side(sizes: &Sizes, place: usize) -> Side
 }
 
 /// The size at a place, from 0; 0 where it is left out.
-fn size_at(sizes: &Sizes, place: usize) -> Dec
+pub(crate) fn size_at(sizes: &Sizes, place: usize) -> Dec
     ensures { result ≡ size_at sizes.now place }
 {
     match sizes.as_slice().get(place) {
@@ -61,7 +61,7 @@ fn size_at(sizes: &Sizes, place: usize) -> Dec
 }
 
 /// Whether a size from this place on is above 0, which makes a hole.
-fn has_hole(sizes: &Sizes, place: usize) -> bool
+pub(crate) fn has_hole(sizes: &Sizes, place: usize) -> bool
     ensures { result ≡ has_hole sizes.now place }
 {
     sizes

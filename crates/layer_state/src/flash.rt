@@ -53,7 +53,7 @@ impl What {
 pub enum FlashKeep {
     /// Flashes, and the pads among them in a list of their own.
     All,
-    /// Flashes alone, with the shapes that macros give apertures.
+    /// Flashes alone, with the shapes of apertures.
     Flashes,
     /// Pads alone.
     Pads,
@@ -76,7 +76,7 @@ impl FlashKeep {
         matches!(self, FlashKeep::All | FlashKeep::Pads)
     }
 
-    /// Whether the macros, and the shapes that they give apertures, are kept.
+    /// Whether the macros and the shapes of apertures are kept.
     pub(crate) fn shapes(self) -> bool
         ensures { result ≡ keeps_shapes self }
     {

@@ -22,6 +22,6 @@ pub use aperture::Aperture;
 pub use current::{Current, ONE};
 pub use flash::{Flash, FlashKeep, What};
 pub use length::{dec_length, step_length};
-pub use mirroring::{Mirroring, oriented, quarter_turns};
+pub use mirroring::{Mirroring, quarter_turns, turned_shape};
 pub use scan::{Scan, Scanned};
 pub use tables::{Apertures, Defined};

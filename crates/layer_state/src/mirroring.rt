@@ -1,9 +1,9 @@
-//! Shapes as they are flashed: mirrored, and then turned by quarters.
+//! Shapes as they are flashed: mirrored, and then turned.
 
 ghost use Rattle.std.specs.Prelude.{◌≡◌, IfOk, map};
 ghost use Rattle.grid_units.specs.Points.{IsCoordinate};
 ghost use Rattle.macro_shapes.specs.Primitives.{quarter_turns, turned_x, turned_y};
-ghost use Rattle.layer_state.specs.Placing.{in_order, is_turned_over, mirrored_point, negated_where, no_mirroring, oriented_point, oriented_shape, turned_point};
+ghost use Rattle.layer_state.specs.Placing.{in_order, is_centred_disc, is_turned_over, mirrored_point, negated_where, no_mirroring, oriented_point, oriented_shape, turned_point, turned_shape};
 
 use grid_units::{Dec, Point};
 use pad_shapes::{Rounded, SharedRounded};
@@ -150,7 +150,7 @@ fn unchanged(shape: &SharedRounded) -> Result<Option<SharedRounded>, AllocError>
 }
 
 /// The shape of an aperture as it is flashed, in the memory of the aperture's own where it is neither mirrored nor turned.
-pub fn oriented(
+fn oriented(
     alloc: Global,
     mirroring: Mirroring,
     turns: u8,
@@ -163,6 +163,30 @@ pub fn oriented(
     }
     match oriented_shape(alloc, mirroring, turns, shape.get())? {
         Some(found) => Ok(Some(SharedRounded::new(alloc, found)?)),
+        None => Ok(None),
+    }
+}
+
+/// Whether a shape is a disc about the point of the flash.
+fn is_centred_disc(shape: &Rounded) -> bool
+    ensures { result ≡ is_centred_disc shape.now }
+{
+    let first = shape.first();
+    shape.others().is_empty() && first.x() == 0 && first.y() == 0
+}
+
+/// The shape of an aperture as it is flashed at a turn in units of 10^-8 degrees: at any if it is a disc about the point of the flash, else at quarters.
+pub fn turned_shape(
+    alloc: Global,
+    mirroring: Mirroring,
+    turn: Dec,
+    shape: &SharedRounded,
+) -> Result<Option<SharedRounded>, AllocError>
+    ensures { IfOk result (λ answer. answer ≡ turned_shape mirroring turn shape.now) }
+{
+    match quarter_turns(turn) {
+        Some(turns) => oriented(alloc, mirroring, turns, shape),
+        None if is_centred_disc(shape.get()) => Ok(Some(shape.share()?)),
         None => Ok(None),
     }
 }

@@ -1,14 +1,19 @@
-//! The shapes that macros give apertures.
+//! The shapes of apertures.
 
 ghost use Rattle.std.specs.Prelude.{◌≡◌, ◌+◌, length, nat_le, sum_by, IfOk};
 ghost use Rattle.std.specs.Option.{option_copied};
-ghost use Rattle.layer_state.specs.Shapes.{by_macro, primitives_shape, within_limits};
+ghost use Rattle.layer_state.specs.Shapes.{by_macro, inner_primitive, primitives_shape, standard_shape, within_limits};
 ghost use Rattle.macro_shapes.specs.Macros.{fields_of};
+ghost use Rattle.macro_shapes.specs.Primitives.{side_of};
+ghost use Rattle.macro_shapes.specs.Shapes.{shape_of};
 
-use gerber_text::Pieces;
-use grid_units::{Text, Unit};
-use macro_shapes::{Macro, macro_shape as shape_of_primitives, read_macro, read_primitives};
-use pad_shapes::{Rounded, SharedRounded};
+use crate::aperture::{has_hole, size_at};
+use gerber_text::{Pieces, Sizes, Standard};
+use grid_units::{Dec, Text, Unit};
+use macro_shapes::{
+    Macro, Primitive, macro_shape as shape_of_primitives, read_macro, read_primitives,
+};
+use pad_shapes::SharedRounded;
 use std::alloc::{AllocError, Global};
 
 /// The length of the longest macro that gives a shape, in bytes.
@@ -61,10 +66,7 @@ pub(crate) fn by_macro(
     ensures { IfOk result (λ shape. shape ≡ by_macro unit (option_copied pieces.entry) (option_copied parameters.entry)) }
 {
     match (unit, pieces) {
-        (Some(unit), Some(pieces)) => match macro_shape(alloc, unit, pieces, parameters)? {
-            Some(shape) => Ok(Some(SharedRounded::new(alloc, shape)?)),
-            None => Ok(None),
-        },
+        (Some(unit), Some(pieces)) => macro_shape(alloc, unit, pieces, parameters),
         _ => Ok(None),
     }
 }
@@ -80,20 +82,73 @@ fn macro_fields(
     read_macro(alloc, pieces.texts(), parameters)
 }
 
+/// The shape of some primitives, where they have one.
+fn shape_of(alloc: Global, primitives: &[Primitive]) -> Result<Option<SharedRounded>, AllocError>
+    ensures { IfOk result (λ answer. answer ≡ shape_of primitives.now) }
+{
+    match shape_of_primitives(alloc, primitives)? {
+        Some(shape) => Ok(Some(SharedRounded::new(alloc, shape)?)),
+        None => Ok(None),
+    }
+}
+
 /// The shape of a macro with the parameters of an aperture, where it has one.
 fn macro_shape(
     alloc: Global,
     unit: Unit,
     pieces: &Pieces,
     parameters: Option<&[u8]>,
-) -> Result<Option<Rounded>, AllocError>
+) -> Result<Option<SharedRounded>, AllocError>
     ensures { IfOk result (λ answer. answer ≡ primitives_shape unit (fields_of pieces.now (option_copied parameters.entry))) }
 {
     let Some(fields) = macro_fields(alloc, pieces, parameters)? else {
         return Ok(None);
     };
-    let Some(primitives) = read_primitives(alloc, unit, fields.primitives())? else {
+    match read_primitives(alloc, unit, fields.primitives())? {
+        Some(primitives) => shape_of(alloc, primitives.as_slice()),
+        None => Ok(None),
+    }
+}
+
+/// A side in pm, or `None` where it is not above 0 or beyond 10 m.
+fn side_of(unit: Unit, side: Dec) -> Option<u64>
+    ensures { result ≡ side_of unit side }
+{
+    if side.units() <= 0 {
+        return None;
+    }
+    Some(side.picometres(unit).ok()?.unsigned_abs())
+}
+
+/// The dark primitive inside of a standard aperture without a hole, however it is turned.
+#[tactic(auto, unfolding(crate::specs::Shapes::inner_primitive))]
+fn inner_primitive(unit: Unit, which: Standard, sizes: &Sizes) -> Option<Primitive>
+    ensures { result ≡ inner_primitive unit which sizes.now }
+{
+    match which {
+        Standard::Rectangle | Standard::Obround if !has_hole(sizes, 2) => {
+            let width = side_of(unit, size_at(sizes, 0))?;
+            let height = side_of(unit, size_at(sizes, 1))?;
+            Some(Primitive::Turned(width.min(height)))
+        }
+        _ => None,
+    }
+}
+
+/// The shape of a standard aperture, where it has one and a unit was named before it.
+pub(crate) fn standard_shape(
+    alloc: Global,
+    unit: Option<Unit>,
+    which: Standard,
+    sizes: &Sizes,
+) -> Result<Option<SharedRounded>, AllocError>
+    ensures { IfOk result (λ shape. shape ≡ standard_shape unit which sizes.now) }
+{
+    let Some(unit) = unit else {
         return Ok(None);
     };
-    shape_of_primitives(alloc, primitives.as_slice())
+    match inner_primitive(unit, which, sizes) {
+        Some(primitive) => shape_of(alloc, &[primitive]),
+        None => Ok(None),
+    }
 }

@@ -11,7 +11,7 @@ ghost use Rattle.layer_state.specs.Flashes.{copies_at, aperture_flashes};
 ghost use Rattle.layer_state.specs.Rules.{first_broken, is_far_pad, is_far_point, max_flashes};
 ghost use Rattle.layer_state.specs.KeptFlashes.{Adds, KeptParts, flash_count, keeps_shapes, without_pads};
 ghost use Rattle.layer_state.specs.Inner.IsStateAfter.{IsStateAfter, Applies, AppliesOrRefuses, IfRefused, state_of, after};
-ghost use Rattle.layer_state.specs.Shapes.{macro_shape};
+ghost use Rattle.layer_state.specs.Shapes.{inner_shape};
 ghost use Rattle.layer_state.specs.Tables.{pieces_at};
 
 use crate::aperture::aperture_of;
@@ -19,7 +19,7 @@ use crate::current::Current;
 use crate::flash::{Flash, FlashKeep};
 use crate::flashes::Flashes;
 use crate::rules::is_flash;
-use crate::shapes::{by_macro, bytes_of, within_limits};
+use crate::shapes::{by_macro, bytes_of, standard_shape, within_limits};
 use crate::tables::{Apertures, Defined, Macros, copy_of};
 use gerber_text::{Command, Pieces, Template};
 use grid_units::ItemFail;
@@ -92,14 +92,17 @@ impl State {
         number: u32,
         template: &Template,
     ) -> Result<Option<SharedRounded>, AllocError>
-        ensures { keeps_shapes self.now.flashes.keep ≡ true → IfOk result (λ s. s ≡ macro_shape self.now.current.unit (pieces_at self.now.macros) number template.now) }
+        ensures { keeps_shapes self.now.flashes.keep ≡ true → IfOk result (λ s. s ≡ inner_shape self.now.current.unit (pieces_at self.now.macros) number template.now) }
     {
         match template {
-            Template::Named(name, parameters) if self.flashes.keep.shapes() => {
+            _ if !self.flashes.keep.shapes() => Ok(None),
+            Template::Named(name, parameters) => {
                 let pieces = within_limits(number, self.macros.get(name));
                 by_macro(self.alloc, self.current.unit, pieces, bytes_of(parameters))
             }
-            Template::Named(_, _) | Template::Standard(_, _) => Ok(None),
+            Template::Standard(which, sizes) => {
+                standard_shape(self.alloc, self.current.unit, *which, sizes)
+            }
         }
     }
 

@@ -11,7 +11,7 @@ use pad_shapes::SharedRounded;
 use std::alloc::{AllocError, Global};
 use std::collections::BTreeMap;
 
-/// An aperture, and the shape of its macro, where shapes are asked for and it has one.
+/// An aperture, and its shape, where shapes are asked for and it has one.
 #[derive(Drop)]
 pub struct Defined {
     pub aperture: Aperture,

@@ -3,14 +3,13 @@ pub use Rattle.std.proofs.Common.{Bool, List, None, Option, Some, [], add-one, a
 pub use Rattle.grid_units.proofs.TriangleInequalities.{le_of_squares, square-le, square_distance_comm}
 pub use Rattle.grid_units.specs.Points.{GridPoint, IsCoordinate, max_coordinate, square, square_distance}
 pub use Rattle.macro_shapes.specs.Inner.Borders.{border_in_turn, disc_in_turn, discs_in_turn, greatest, least, line_in_turn}
-pub use Rattle.macro_shapes.specs.Inner.Bytes.{left_of, split_by_if}
 pub use Rattle.macro_shapes.specs.Inner.Pieces.{all_decimals, all_values, fields_from, on_piece}
 unfoldable pub use Rattle.macro_shapes.specs.Inner.Pieces.{parameters_of}
 pub use Rattle.macro_shapes.proofs.PiecesLemmas.{decimals_next, macro_exactly, no_macro, value_exactly}
 pub use Rattle.macro_shapes.specs.Inner.Reading.{State, on_byte, start, state, step}
 unfoldable pub use Rattle.macro_shapes.specs.Inner.Reading.{run}
 pub use Rattle.macro_shapes.specs.Inner.Steps.{other_point, second_crossing}
-pub use Rattle.macro_shapes.specs.Pieces.{IsMacro, split_by}
+pub use Rattle.macro_shapes.specs.Pieces.{IsMacro}
 pub use Rattle.macro_shapes.specs.Primitives.{IsInLine, IsInPrimitive, IsInRectangle, are_different, grid_point, is_closed, is_same, moves, outline_at, point_at, polygon_of, polygon_round, primitives_of, rounded_of, run_of, stops}
 pub use Rattle.macro_shapes.specs.Shapes.{ShapeIsInPrimitives, centre_shape, cross_shape, diameter_at, do_cross, least_of, line_shape, rectangle_about, rectangle_along, rectangle_of, segment, width_along, with_arms, with_border}
 unfoldable pub use Rattle.macro_shapes.specs.Shapes.{border, cross_border, disc_at, line_along}
@@ -35,4 +34,6 @@ pub use Rattle.std.specs.List.{All, Contains, cons_option, filter_map, fold, lis
 pub use Rattle.std.specs.Option.{option_copied, option_or}
 pub use Rattle.std.specs.Ordering.{int_eq}
 pub use Rattle.std.specs.Prelude.{IfSome, IsSome, MatchOption, if◌then◌else◌, int_le, int_lt, is_some, nat_le, nat_lt, option_and_then, option_map, zip, ◌&&◌, ◌==◌, ◌||◌}
+pub use Rattle.grid_units.proofs.SplitLemmas.{left_of}
+pub use Rattle.grid_units.specs.Rows.{split_by_if, split_by}
 pub use mir.Val.{of_z, to_z}

@@ -5,7 +5,6 @@ pub mod ArithmeticLemmas
 pub mod ExactLemmas
 pub mod ScanLemmas
 pub mod VariablesLemmas
-pub mod SplitLemmas
 pub mod GridLemmas
 pub mod BordersInTurn
 pub mod BorderLemmas

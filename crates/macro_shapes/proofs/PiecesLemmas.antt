@@ -11,12 +11,13 @@ use Rattle.grid_units.specs.Numbers.{parse_decimal}
 use Rattle.grid_units.specs.declared.fault.Reason.{Reason}
 use Rattle.grid_units.specs.Ascii as ascii
 use Rattle.macro_shapes.specs.Values.{Environment, lookup, with_value, IsDiameter, IsRoundedProduct, IsValue}
-use Rattle.macro_shapes.specs.Pieces.{split_by, AreFields, AreParameters, is_comment, is_diameter, definition, code_of, SpellsFields, SpellPrimitives, IsMacro}
+use Rattle.macro_shapes.specs.Pieces.{AreFields, AreParameters, is_comment, is_diameter, definition, code_of, SpellsFields, SpellPrimitives, IsMacro}
 use Rattle.macro_shapes.specs.Inner.Pieces.{value_of, diameter_of, field_value, all_values, parts_fields, piece_fields, on_definition, fields_from, all_decimals, if_few, parameters_of}
 use Rattle.macro_shapes.specs.declared.fields.Fields.{Fields}
 use Rattle.macro_shapes.specs.declared.piece.Code.{Code}
 use Rattle.macro_shapes.proofs.BytesLemmas.{comment_is, definition_is}
 use Rattle.macro_shapes.proofs.ReadingLemmas.{bind_some, map_some, read_exactly, product_exactly}
+use Rattle.grid_units.specs.Rows.{split_by}
 
 -- ---- values
 

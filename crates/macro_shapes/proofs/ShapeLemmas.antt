@@ -309,4 +309,4 @@ shape_is_in_primitives (primitive.VectorLine a b w ∷ qs) s h p inside =
     vector_inside qs a b w (border (primitive.VectorLine a b w ∷ qs) (segment a b)) s refl h p inside
 shape_is_in_primitives (primitive.CentreLine c w l ∷ qs) s h p inside = centre_shape_inside qs c w l s h p inside
 shape_is_in_primitives (primitive.Outline r ∷ qs) s h p inside = outline_inside qs r (border (primitive.Outline r ∷ qs) r) s refl h p inside
-shape_is_in_primitives (primitive.Polygon d ∷ qs) s h p inside = (primitive.Polygon d, first_of_list (primitive.Polygon d) qs, disc_inside (record { x = pos 0; y = pos 0 }) d s h p inside)
+shape_is_in_primitives (primitive.Turned d ∷ qs) s h p inside = (primitive.Turned d, first_of_list (primitive.Turned d) qs, disc_inside (record { x = pos 0; y = pos 0 }) d s h p inside)

@@ -1,19 +1,15 @@
 -- The pieces of a macro: comments, definitions of variables, and primitives with the values of their fields (Gerber format, Aperture macro AM).
 use Rattle.std.specs.Prelude.{◌≡◌, ◌↔◌, ℕ, ℤ, ◌≤◌, Bool, ◌&&◌, ◌||◌, ◌==◌, nat_le, ◌+◌, false, ⊤, List, [], ◌∷◌, length, drop, map, if◌then◌else◌, Option, None, Some, option_map, option_and_then, Ok, MatchOption, codes, take_while}
 use Rattle.std.specs.Bool.{MatchBool}
-use Rattle.std.specs.List.{prefix_len, slice_split}
+use Rattle.std.specs.List.{prefix_len}
 use Rattle.std.specs.Str.{bytes_eq}
 use Rattle.grid_units.specs.Ascii as ascii
 use Rattle.grid_units.specs.Numbers.{is_digit, is_digits, is_number_char, value, parse_decimal}
-use Rattle.grid_units.specs.Rows.{strip_prefix}
+use Rattle.grid_units.specs.Rows.{strip_prefix, split_by}
 use Rattle.macro_shapes.specs.Values.{Environment, lookup, with_value, IsValue, IsDiameter}
 use Rattle.macro_shapes.specs.declared.piece.Code.{Code}
 use Rattle.macro_shapes.specs.declared.piece.Code.TheVariants as code
 use Rattle.macro_shapes.specs.declared.fields.Fields.{Fields}
-
--- the parts of a text between the bytes that divide it: `1,0.5` divided at `,` is `1` and `0.5`
-abbrev pub split_by : ℕ → List ℕ → List (List ℕ)
-split_by at text = slice_split (λ b. b == at) text
 
 -- ---- parameters
 

@@ -1,6 +1,6 @@
 -- The dark primitives of a macro that are judged, and their points, in whole pm about the point of the flash (Gerber format, Aperture macro AM).
-use Rattle.std.specs.Prelude.{◌≡◌, ℕ, ℤ, pos, ◌-◌, ◌*◌, ◌/◌, ◌%◌, ◌^◌, ◌<◌, ◌≤◌, ◌≤ℤ◌, neg_ℤ, Bool, true, not, ◌&&◌, ◌==◌, nat_le, nat_lt, int_lt, int_le, unsigned_abs, List, [], ◌∷◌, length, take, drop, zip, reverse, get_or, slice_get, if◌then◌else◌, Option, None, Some, option_map, option_and_then}
-use Rattle.std.specs.Option.{option_or}
+use Rattle.std.specs.Prelude.{◌≡◌, ℕ, ℤ, pos, ◌-◌, ◌*◌, ◌/◌, ◌%◌, ◌^◌, ◌<◌, ◌≤◌, ◌≤ℤ◌, neg_ℤ, Bool, true, not, ◌&&◌, ◌==◌, nat_le, nat_lt, int_lt, int_le, unsigned_abs, List, [], ◌∷◌, length, take, drop, zip, reverse, get_or, slice_get, if◌then◌else◌, Option, None, Some, option_map, option_and_then, min}
+use Rattle.std.specs.Option.{option_map_or, option_or}
 use Rattle.std.specs.Result.{result_ok}
 use Rattle.std.specs.List.{filter_map, list_any}
 use Rattle.std.specs.Ordering.{int_eq}
@@ -33,13 +33,13 @@ abbrev pub IsInRectangle : GridPoint → ℕ → ℕ → GridPoint → Type 0
 IsInRectangle centre width height p = (2 * abs_diff p.x centre.x ≤ width) × (2 * abs_diff p.y centre.y ≤ height)
 
 -- the points of a primitive; those of an outline lie to the right of no edge of a convex polygon, and a flat outline has none (Gerber
--- format, Outline, code 4); of a regular polygon the points of the disc inside of it
+-- format, Outline, code 4); of what any angle may turn, the points of the disc inside of it
 abbrev pub IsInPrimitive : Primitive → GridPoint → Type 0
 IsInPrimitive (primitive.Circle centre diameter) p = IsInCircle centre diameter p
 IsInPrimitive (primitive.VectorLine from to width) p = IsInLine (record { from = from; to = to }) width p
 IsInPrimitive (primitive.CentreLine centre width height) p = IsInRectangle centre width height p
 IsInPrimitive (primitive.Outline corners) p = is_deep_inside corners 0 p ≡ true
-IsInPrimitive (primitive.Polygon inner) p = IsInCircle (record { x = pos 0; y = pos 0 }) inner p
+IsInPrimitive (primitive.Turned inner) p = IsInCircle (record { x = pos 0; y = pos 0 }) inner p
 
 -- ---- values of fields
 
@@ -96,6 +96,11 @@ with_sides turns c w h = if turns % 2 == 0 then primitive.CentreLine c w h else 
 abbrev pub rectangle_at : Units → ℤ → ℤ → ℤ → ℤ → ℕ → Option Primitive
 rectangle_at unit width height x y turns =
     option_and_then (λ w. option_and_then (λ h. option_map (λ c. with_sides turns c w h) (point_of_values unit turns x y)) (side_of unit height)) (side_of unit width)
+
+-- a centre line about the point of the flash, turned by any angle: the diameter of the disc inside of it (Gerber format, Center line, code 21)
+abbrev pub turned_rectangle : Units → ℤ → ℤ → ℤ → ℤ → Option Primitive
+turned_rectangle unit width height x y =
+    if int_eq x (pos 0) && int_eq y (pos 0) then option_and_then (λ w. option_map (λ h. primitive.Turned (min w h)) (side_of unit height)) (side_of unit width) else None
 
 -- ---- outlines
 
@@ -178,7 +183,7 @@ cosine_of v = if int_le (pos 300000000) v && (unsigned_abs v % 100000000 == 0) t
 abbrev pub polygon_at : Units → ℤ → ℤ → ℤ → ℤ → ℤ → Option Primitive
 polygon_at unit exposure corners x y diameter =
     if int_eq exposure (pos 100000000) && (int_eq x (pos 0) && int_eq y (pos 0))
-    then option_and_then (λ k. option_map (λ d. primitive.Polygon (d * k / 10 ^ 18)) (size_of unit diameter)) (cosine_of corners) else None
+    then option_and_then (λ k. option_map (λ d. primitive.Turned (d * k / 10 ^ 18)) (size_of unit diameter)) (cosine_of corners) else None
 
 -- ---- all primitives
 
@@ -188,7 +193,8 @@ abbrev pub primitive_by_code : Code → Units → List ℤ → Option Primitive
 primitive_by_code code.Circle unit (exposure ∷ diameter ∷ x ∷ y ∷ []) = option_and_then (circle_at unit diameter x y) (dark_turns exposure (pos 0))
 primitive_by_code code.Circle unit (exposure ∷ diameter ∷ x ∷ y ∷ angle ∷ []) = option_and_then (circle_at unit diameter x y) (dark_turns exposure angle)
 primitive_by_code code.VectorLine unit (exposure ∷ width ∷ x1 ∷ y1 ∷ x2 ∷ y2 ∷ angle ∷ []) = option_and_then (line_at unit width x1 y1 x2 y2) (dark_turns exposure angle)
-primitive_by_code code.CentreLine unit (exposure ∷ width ∷ height ∷ x ∷ y ∷ angle ∷ []) = option_and_then (rectangle_at unit width height x y) (dark_turns exposure angle)
+primitive_by_code code.CentreLine unit (exposure ∷ width ∷ height ∷ x ∷ y ∷ angle ∷ []) =
+    if int_eq exposure (pos 100000000) then option_map_or (rectangle_at unit width height x y) (quarter_turns angle) (turned_rectangle unit width height x y) else None
 primitive_by_code code.Outline unit (exposure ∷ count ∷ rest) = outline_at unit exposure count (take (length rest - 1) rest) (get_or rest (length rest - 1) (pos 0))
 primitive_by_code code.Polygon unit (exposure ∷ corners ∷ x ∷ y ∷ diameter ∷ angle ∷ []) = polygon_at unit exposure corners x y diameter
 primitive_by_code _ unit _ = None

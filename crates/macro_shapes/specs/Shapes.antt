@@ -109,7 +109,7 @@ shape_from qs (primitive.Circle centre diameter) = rounded_of centre [] diameter
 shape_from qs (primitive.VectorLine from to width) = line_shape qs from to width
 shape_from qs (primitive.CentreLine centre width height) = centre_shape qs centre width height
 shape_from qs (primitive.Outline corners) = with_border corners (unwrap_or (border qs corners) 0)
-shape_from qs (primitive.Polygon inner) = rounded_of (record { x = pos 0; y = pos 0 }) [] inner
+shape_from qs (primitive.Turned inner) = rounded_of (record { x = pos 0; y = pos 0 }) [] inner
 
 -- the shape of a macro with these primitives, by its first one; the others, all dark, only add to it
 abbrev pub shape_of : List Primitive → Option GridRounded

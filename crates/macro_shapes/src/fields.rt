@@ -1,17 +1,17 @@
 //! The primitives of a macro as they are written, with the exact values of their fields.
 
-ghost use Rattle.std.specs.Prelude.{◌≡◌, ◌≤◌, ◌↔◌, ◌++◌, ◌∷◌, ℕ, ℤ, List, map, Option, None, Some, option_map, IfOk, MatchOption, IsSomeAnd, []};
+ghost use Rattle.std.specs.Prelude.{◌≡◌, ◌≤◌, ◌↔◌, ◌++◌, ◌∷◌, ℕ, ℤ, List, Option, None, Some, option_map, IfOk, MatchOption, IsSomeAnd, []};
 ghost use Rattle.std.specs.Option.{option_copied};
 ghost use Rattle.macro_shapes.specs.Values.{Environment, lookup, with_value};
 ghost use Rattle.macro_shapes.specs.Pieces.{IsMacro};
-ghost use Rattle.macro_shapes.specs.Inner.Bytes.{split_by_if};
 ghost use Rattle.macro_shapes.specs.Inner.Pieces.{value_of, field_value, all_values, piece_fields, on_piece, fields_from};
 ghost use Rattle.macro_shapes.specs.declared.fields.Fields.{Fields};
+ghost use Rattle.grid_units.specs.Rows.{split_by_if};
 
 use crate::expression::{read, read_diameter};
-use crate::piece::{Code, code_of, definition, is_comment, is_diameter, split_first};
+use crate::piece::{Code, code_of, definition, is_comment, is_diameter};
 use crate::variables::Variables;
-use grid_units::{Dec, Text};
+use grid_units::{Dec, Text, split_first};
 use std::alloc::{AllocError, Global};
 use std::marker::Model;
 

@@ -1,9 +1,8 @@
 //! The pieces of a macro: comments, definitions of variables, and primitives.
 
-ghost use Rattle.std.specs.Prelude.{◌≡◌, ◌≤◌, ◌<◌, ◌∷◌, length, option_map, IfSome, position, ◌==◌};
-ghost use Rattle.std.specs.Option.{option_copied};
-ghost use Rattle.macro_shapes.specs.Pieces.{split_by, code_of, is_diameter};
-ghost use Rattle.macro_shapes.specs.Inner.Bytes.{split_by_if, goes_on, number_and_text, starts_comment, starts_definition, variable_number};
+ghost use Rattle.std.specs.Prelude.{◌≡◌, ◌≤◌, ◌<◌, option_map, IfSome, ◌==◌};
+ghost use Rattle.macro_shapes.specs.Pieces.{code_of, is_diameter};
+ghost use Rattle.macro_shapes.specs.Inner.Bytes.{goes_on, number_and_text, starts_comment, starts_definition, variable_number};
 
 use grid_units::numbers::{capped_value, digit_run_len, is_digits, is_number_char};
 
@@ -111,23 +110,5 @@ pub(crate) fn is_diameter(code: Code, number: usize) -> bool
         Code::Circle => number == 1,
         Code::Polygon => number == 4,
         _ => false,
-    }
-}
-
-/// The offset of the first byte that divides a text.
-fn separator_at(at: u8, text: &[u8]) -> Option<usize>
-    ensures { result ≡ position (λ b. b == at) text.now }
-{
-    text.iter().position(|byte| *byte == at)
-}
-
-/// The first part of a text, and what follows the byte that divides it.
-pub(super) fn split_first(at: u8, text: &[u8]) -> (&[u8], Option<&[u8]>)
-    ensures parts { split_by at text.now ≡ result.0.now ∷ split_by_if at (option_copied result.1) }
-    ensures shorter { IfSome result.1 (λ rest. length rest.now < length text.now) }
-{
-    match separator_at(at, text) {
-        Some(i) => (&text[..i], Some(&text[i + 1..])),
-        None => (text, None),
     }
 }

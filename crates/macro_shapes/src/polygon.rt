@@ -60,7 +60,7 @@ pub(crate) fn polygon(unit: Unit, values: &[Dec]) -> Option<Primitive>
             if is_dark(*exposure) && x.units() == 0 && y.units() == 0 => {
             let cosine = cosine_of(*corners)?;
             let diameter = size_of(unit, *diameter)?;
-            Some(Primitive::Polygon(inner_diameter(diameter, cosine)))
+            Some(Primitive::Turned(inner_diameter(diameter, cosine)))
         }
         _ => None,
     }

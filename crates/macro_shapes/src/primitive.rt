@@ -2,7 +2,7 @@
 
 ghost use Rattle.std.specs.Prelude.{◌≡◌, IfOk, pos};
 ghost use Rattle.std.specs.Ordering.{int_eq};
-ghost use Rattle.macro_shapes.specs.Primitives.{quarter_turns, turned_x, turned_y, grid_point, size_of, side_of, dark_turns, point_of_values, circle_at, line_at, with_sides, rectangle_at, primitive_by_code, primitives_of};
+ghost use Rattle.macro_shapes.specs.Primitives.{quarter_turns, turned_x, turned_y, grid_point, size_of, side_of, dark_turns, point_of_values, circle_at, line_at, with_sides, rectangle_at, turned_rectangle, primitive_by_code, primitives_of};
 ghost use Rattle.macro_shapes.specs.Inner.Steps.{length_of, point_of};
 ghost use Rattle.macro_shapes.specs.declared.piece.Code.TheVariants as code;
 
@@ -37,8 +37,9 @@ pub enum Primitive {
     },
     /// The area of a convex polygon. The radius of the corners says nothing.
     Outline(Rounded),
-    /// A regular polygon about the point of the flash, turned by any angle, by the diameter of the disc inside of it, rounded down.
-    Polygon(u64),
+    /// A regular polygon about the point of the flash, or a rectangle about it, turned by any angle, by the diameter of the disc inside of it,
+    /// rounded down.
+    Turned(u64),
 }
 
 /// The primitives of a macro. Contracts see the list of them.
@@ -250,14 +251,28 @@ fn rectangle_at(unit: Unit, turns: u8, width: Dec, height: Dec, x: Dec, y: Dec) 
     Some(with_sides(turns, centre, width, height))
 }
 
+/// A centre line about the point of the flash that is turned by any angle.
+fn turned_rectangle(unit: Unit, width: Dec, height: Dec, x: Dec, y: Dec) -> Option<Primitive>
+    ensures { result ≡ turned_rectangle unit width height x y }
+{
+    if x.units() != 0 || y.units() != 0 {
+        return None;
+    }
+    let width = side_of(unit, width)?;
+    let height = side_of(unit, height)?;
+    Some(Primitive::Turned(width.min(height)))
+}
+
 /// The centre line that values spell.
 fn centre_line(unit: Unit, values: &[Dec]) -> Option<Primitive>
     ensures { result ≡ primitive_by_code code.CentreLine unit values.now }
 {
     match values {
-        [exposure, width, height, x, y, rotation] => {
-            let turns = dark_turns(*exposure, *rotation)?;
-            rectangle_at(unit, turns, *width, *height, *x, *y)
+        [exposure, width, height, x, y, rotation] if is_dark(*exposure) => {
+            match quarter_turns(*rotation) {
+                Some(turns) => rectangle_at(unit, turns, *width, *height, *x, *y),
+                None => turned_rectangle(unit, *width, *height, *x, *y),
+            }
         }
         _ => None,
     }
@@ -284,7 +299,7 @@ fn coded(
 /// The primitives that fields spell in lengths of this unit, or `None` where one of them is not judged: where it is not dark, is
 /// turned by another angle than quarters, has a coordinate or a size beyond 10 m, another number of fields than its code asks
 /// for, or is an outline that is not convex, or a regular polygon about another point than that of the flash or of another number of
-/// corners than 3 to 12, which any angle may turn (Gerber format, Aperture macro AM).
+/// corners than 3 to 12. Any angle may turn a polygon, and a centre line about the point of the flash (Gerber format, Aperture macro AM).
 ///
 /// # Errors
 ///

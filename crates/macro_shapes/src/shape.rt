@@ -4,7 +4,7 @@ ghost use Rattle.std.specs.Prelude.{◌≡◌, IfOk, option_and_then, unwrap_or}
 ghost use Rattle.macro_shapes.specs.Primitives.{rounded_of};
 ghost use Rattle.macro_shapes.specs.Shapes.{diameter_at, width_along, disc_at, line_along, border, rectangle_of, rectangle_about, rectangle_along, segment, line_shape, with_border, crossing_sides, cross_border, with_arms, cross_shape, centre_shape, do_cross, shape_from, shape_of};
 ghost use Rattle.macro_shapes.specs.Inner.Steps.{second_crossing};
-ghost use Rattle.macro_shapes.specs.Inner.Borders.{greatest, least, disc_in_turn, line_in_turn, discs_in_turn, border_in_turn};
+ghost use Rattle.macro_shapes.specs.Inner.Borders.{greatest, least, discs_in_turn, border_in_turn};
 
 use crate::outline::{is_same, rounded_of};
 use crate::primitive::{Primitive, grid_point};
@@ -386,7 +386,7 @@ fn shape_from(
             height,
         } => centre_shape(alloc, primitives, *centre, *width, *height),
         Primitive::Outline(corners) => outline_shape(alloc, primitives, corners),
-        Primitive::Polygon(diameter) => match grid_point(0, 0) {
+        Primitive::Turned(diameter) => match grid_point(0, 0) {
             Some(centre) => Ok(rounded_of(centre, Vec::new(alloc), *diameter)),
             None => Ok(None),
         },
@@ -398,7 +398,7 @@ fn shape_from(
 /// outline a convex polygon: rounded by half of the least of the circles at its corners and of the vector lines along its edges,
 /// where none of them lacks. A centre line that a second one about the same centre crosses is their common part, rounded by half
 /// of the least of the circles at its corners, the difference of the widths and that of the heights, where this is above 0. A regular
-/// polygon is the disc inside of it.
+/// polygon, and a rectangle that is turned by other than quarters, is the disc inside of it.
 ///
 /// # Errors
 ///

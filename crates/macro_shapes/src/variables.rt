@@ -4,12 +4,11 @@ ghost use Rattle.std.specs.Prelude.{◌≡◌, ◌≤◌, ◌-◌, ℕ, None, if
 ghost use Rattle.std.specs.Option.{option_copied};
 ghost use Rattle.macro_shapes.specs.Values.{lookup, with_value};
 ghost use Rattle.grid_units.specs.Numbers.{is_digits, value};
-ghost use Rattle.macro_shapes.specs.Pieces.{split_by};
 ghost use Rattle.macro_shapes.specs.Inner.Pieces.{all_decimals};
+ghost use Rattle.grid_units.specs.Rows.{split_by};
 
-use crate::piece::split_first;
-use grid_units::Dec;
 use grid_units::numbers::{capped_value, is_digits};
+use grid_units::{Dec, split_first};
 use std::alloc::{AllocError, Global};
 use std::marker::Model;
 

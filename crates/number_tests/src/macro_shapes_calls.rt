@@ -243,7 +243,7 @@ const HOLES: [(&[&str], Option<&str>, i64, i64, i64, Option<bool>); 74] = [
     (&["20,1,1.0,0,0,0,0,0"], None, 0, 0, 325_000_000, None),
     (TURNED, UPRIGHT, 0, 600_000, 325_000_000, Some(true)),
     (TURNED, LEVEL, 0, 600_000, 325_000_000, Some(false)),
-    (TURNED, Some("2.0X0.65X335.0"), 0, 0, 325_000_000, None),
+    (TURNED, Some("2X0.65X335"), 0, 0, 325_000_000, Some(true)),
     (TURNED, Some("0X0.65X0.0"), 0, 0, 325_000_000, None),
     (&["1,1,99999.0,0,0"], None, 0, 0, 325_000_000, None),
     (&["1,1,10000.0,0,0"], None, 0, 0, 325_000_000, Some(true)),

@@ -1,23 +1,9 @@
 -- The entries of a report and the findings of its check.
-use Rattle.std.proofs.Common.{◌≡◌, ◌+◌, ◌∷◌, ℕ, Bool, true, false, List, [], length, refl, sym, subst, ap, ap₂, ◌∙◌, not}
-use Rattle.std.specs.List.{AllZip, filter}
+use Rattle.package_check.proofs.Common.{◌≡◌, ◌+◌, ◌∷◌, ℕ, Bool, false, List, [], length, refl, sym, subst, ap, ap₂, ◌∙◌, AllZip, filter, GridRules, Finding, IsReport, BoardView, board_findings, report_of_board, IsGapEntry, IsRingEntry, is_gap, MatchesGap, MatchesRing, ReportAgreesWithCheck, AllZip-long, nil_from_length, not_not, Gap, AnswerIsUnique, ReportView, PassingIsSound}
+use Rattle.std.proofs.Common.{true, not}
 use Rattle.std.specs.Prelude.{Ok}
-use Rattle.grid_units.specs.Holes.{GridRules}
-use Rattle.ring_rules.specs.declared.finding.Finding.{Finding}
-use Rattle.package_check.specs.Package.{IsReport}
-use Rattle.board.specs.Boards.{BoardView, board_findings}
-use Rattle.package_check.specs.Boards.{report_of_board}
-use Rattle.board_report.specs.BoardReport.{IsGapEntry, IsRingEntry, is_gap}
-use Rattle.package_check.specs.BoardReports.{MatchesGap, MatchesRing, ReportAgreesWithCheck}
 use Rattle.std.proofs.lemmas.List.Filters.{length-filter_both}
-use Rattle.std.proofs.lemmas.Slice.Zip.{AllZip-long}
-use Rattle.std.proofs.lemmas.List.{nil_from_length}
-use Rattle.grid_units.proofs.BoolLemmas.{not_not}
 use Rattle.package_check.proofs.FlashReadingLemmas.{ok_same}
-use Rattle.ring_rules.specs.declared.finding.Finding.TheVariants.{Gap}
-use Rattle.package_check.specs.AlikePackages.{AnswerIsUnique}
-use Rattle.package_check.specs.Reports.{ReportView}
-use Rattle.package_check.specs.Soundness.{PassingIsSound}
 use Rattle.package_check.proofs.BoardsLemmas.{reported_on}
 use Rattle.report.specs.declared.GapLack.{GapLack}
 use Rattle.report.specs.declared.RingLack.{RingLack}

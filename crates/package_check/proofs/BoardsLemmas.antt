@@ -1,7 +1,6 @@
 -- The board of a package, and its holes with their places.
-use Rattle.package_check.proofs.Common.{Kept, contents_in, map-append, pads_of, ◌≡◌, ◌+◌, ◌++◌, ℕ, List, [], ◌∷◌, length, map, take, drop, arith, refl, sym, ap, ap₂, ◌∙◌, Bool, true, false, cond, not, flat_map, enumerate_from, count_by, sum_by, length-append, length-map, flat_map-cons, sum_by-cons, GridHole, GridRules, is_round, LayerSpan, Drawn, Drilled, Numbered, Content, wide_pad_covers, WidePad, gap_findings, ring_findings, FileCountsAddUp, BoardView, IsBoard, board_findings, board_of, hole_count, numbered_from, numbered_in, report_of_board, FileView, IsReport, holes_of_all, findings, holes_of, layer_indexes, layers, report_on, sum_of, ReportView, drilled_in}
+use Rattle.package_check.proofs.Common.{Kept, contents_in, map-append, pads_of, ◌≡◌, ◌+◌, ◌++◌, ℕ, List, [], ◌∷◌, length, map, take, drop, arith, refl, sym, ap, ap₂, ◌∙◌, Bool, true, false, cond, not, flat_map, enumerate_from, count_by, sum_by, length-append, length-map, flat_map-cons, sum_by-cons, GridHole, GridRules, is_round, LayerSpan, Drawn, Drilled, Numbered, Content, wide_pad_covers, WidePad, gap_findings, ring_findings, FileCountsAddUp, BoardView, IsBoard, board_findings, board_of, hole_count, numbered_from, numbered_in, report_of_board, FileView, IsReport, holes_of_all, findings, holes_of, layer_indexes, layers, report_on, sum_of, ReportView, drilled_in, flat_map_more}
 use Rattle.std.proofs.lemmas.Grind.{flat_map-append}
-use Rattle.std.proofs.lemmas.List.{flat_map_more}
 use Rattle.std.proofs.Math.Seq.{take-append_seam, drop-append_seam}
 use Rattle.std.specs.Prelude.{Option}
 use Rattle.pad_shapes.specs.declared.row.FeatureRow.{FeatureRow}

@@ -1,10 +1,9 @@
 -- A check that reads a copper file piece by piece.
-use Rattle.package_check.proofs.Common.{◌≡◌, ℕ, Bool, true, false, List, [], Ok, Err, Option, None, Result, OnOk, ap, subst, sym, ◌∙◌, AllocError, GridRules, Answers, LayerSpan, Fail, Drilled, CheckView, AreHolesOf, HasJudged, IsJudgedOf, TakesCopper, HoldsThose, is_wanted, HasTriedPadsOf, Judges, HasFailed, HasOpenedCopper, HasReadCopper, Setting, FileView, is_bad_span, unnamed_file, PackageFault, Judged, Profile, LayerStands, HolesView}
+use Rattle.package_check.proofs.Common.{◌≡◌, ℕ, Bool, true, false, List, [], Ok, Err, Option, None, Result, OnOk, ap, subst, sym, ◌∙◌, AllocError, GridRules, Answers, LayerSpan, Fail, Drilled, CheckView, AreHolesOf, HasJudged, IsJudgedOf, TakesCopper, HoldsThose, is_wanted, HasTriedPadsOf, Judges, HasFailed, HasOpenedCopper, HasReadCopper, Setting, FileView, is_bad_span, unnamed_file, PackageFault, Judged, Profile, LayerStands, HolesView, LayerReader}
 use Rattle.grid_units.specs.declared.fault.Fail.TheVariants as fails
 use Rattle.manifest.specs.declared.Role.TheVariants as role
 use Rattle.package_check.specs.CheckViews.{holes_of, setting_of}
 use Rattle.layer_features.specs.declared.keep.Keep.TheVariants as keep
-use Rattle.layer_image.specs.declared.reader.LayerReader.{LayerReader}
 use Rattle.package_check.proofs.JudgedCopper.{none_tried}
 use Rattle.package_check.specs.declared.open_copper.OpenCopper.{OpenCopper}
 use Rattle.package_check.proofs.OpenFiles.{failed_read}

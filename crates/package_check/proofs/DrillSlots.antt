@@ -1,9 +1,8 @@
 -- A check goes on from a reader that has taken the drill files of a package.
-use Rattle.package_check.proofs.Common.{◌≡◌, ◌+◌, ◌≤◌, ◌++◌, ℕ, zero, suc, List, [], ◌∷◌, Bool, true, false, not, Option, Some, None, Ok, length, map, slice_get, arith, refl, sym, ap, ap₂, subst, ◌∙◌, zero-add, flat_map, sum_by, both_ways, length-append, length-map, flat_map-cons, sum_by-cons, none-some, same_Some, GridRules, Keep, Drilled, hole_count, CheckView, holes_in_slot, HasJudged, IsJudgedOf, drill_files, layer_number, HasTaken, HoldsThose, IsKeptOf, contents_in, is_kind_at, is_kind_of, is_wanted, kept_at, LeftView, count_in, holes_in, left_in, Judges, rings_of, FileView, HasContent, HaveContents, is_copper, sum_of, drilled_in, PackageFault, Content, Judged, PackageReader, Kept}
+use Rattle.package_check.proofs.Common.{◌≡◌, ◌+◌, ◌≤◌, ◌++◌, ℕ, zero, suc, List, [], ◌∷◌, Bool, true, false, not, Option, Some, None, Ok, length, map, slice_get, arith, refl, sym, ap, ap₂, subst, ◌∙◌, zero-add, flat_map, sum_by, both_ways, length-append, length-map, flat_map-cons, sum_by-cons, none-some, same_Some, GridRules, Keep, Drilled, hole_count, CheckView, holes_in_slot, HasJudged, IsJudgedOf, drill_files, layer_number, HasTaken, HoldsThose, IsKeptOf, contents_in, is_kind_at, is_kind_of, is_wanted, kept_at, LeftView, count_in, holes_in, left_in, Judges, rings_of, FileView, HasContent, HaveContents, is_copper, sum_of, drilled_in, PackageFault, Content, Judged, PackageReader, Kept, not_true}
 use Rattle.package_check.specs.declared.contents.Content.TheVariants as content
 use Rattle.package_check.proofs.BoardsLemmas.{all_listed}
 use Rattle.package_check.proofs.ContentIsReading.{content_read}
-use Rattle.grid_units.proofs.BoolLemmas.{not_true}
 use Rattle.package_check.proofs.FileKinds.{drill_files_more, file_kind}
 
 -- ---- holes and their counts

@@ -1,10 +1,9 @@
 -- The holes of a board with their places, looked up one at a time.
-use Rattle.package_check.proofs.Common.{◌≡◌, ◌<◌, ◌≤◌, ◌+◌, ◌-◌, ◌++◌, ℕ, zero, suc, inl, inr, List, [], ◌∷◌, Some, None, length, take, drop, get_or, min, arith, refl, sym, ap, ap₂, subst, ◌∙◌, true, false, enumerate_from, sum_by, cases_lt, leb-false, leb-true, get_or_append_left, get_or-append_right, get_or_default, length-append, length-drop, length-map, length-take-le, take-take, take_all, sum_by-cons, sum_by-take-le, sum_by_more, slice_get-map, slice_get_past, slice_get_read, Drilled, FileSum, Numbered, CountsAddUp, hole_count, holes_before, numbered_from, numbered_in, AreFileStarts, AreStartsOf}
+use Rattle.package_check.proofs.Common.{◌≡◌, ◌<◌, ◌≤◌, ◌+◌, ◌-◌, ◌++◌, ℕ, zero, suc, inl, inr, List, [], ◌∷◌, Some, None, length, take, drop, get_or, min, arith, refl, sym, ap, ap₂, subst, ◌∙◌, true, false, enumerate_from, sum_by, cases_lt, leb-false, leb-true, get_or_append_left, get_or-append_right, get_or_default, length-append, length-drop, length-map, length-take-le, take-take, take_all, sum_by-cons, sum_by-take-le, sum_by_more, slice_get-map, slice_get_past, slice_get_read, Drilled, FileSum, Numbered, CountsAddUp, hole_count, holes_before, numbered_from, numbered_in, AreFileStarts, AreStartsOf, IsPartitionedBy-leb}
 use Rattle.std.specs.List.{slice_get}
 use Rattle.std.specs.List.Sorted.{IsNonDecreasingBy, IsPartitionPoint, IsPartitionedBy}
 use Rattle.std.specs.Option.{option_map}
 use Rattle.std.proofs.lemmas.List.FromFn.{length-enumerate_from}
-use Rattle.std.proofs.lemmas.List.Sorted.{IsPartitionedBy-leb}
 use lib.Dec.{leb}
 
 -- an element of the first of two lists, and one of the second

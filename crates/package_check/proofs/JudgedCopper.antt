@@ -1,9 +1,7 @@
 -- A copper file whose pads are tried as they are read.
-use Rattle.package_check.proofs.Common.{◌≡◌, ◌++◌, ℕ, List, [], None, Ok, Err, false, true, ap, inl, subst, sym, inr, refl, ◌∙◌, map, GridRules, Answers, Fail, without_places, LayerStands, KeptLayer, ReadsKeptIn, plain, FeatureCounts, wide_pad_covers, WidePad, layer_findings, Drilled, Finding, HasLayerView, is_copper_function, layer_view, HolesView, HasTriedIn, HasTriedPadsOf, JudgesCopper, not_copper, Judged}
+use Rattle.package_check.proofs.Common.{◌≡◌, ◌++◌, ℕ, List, [], None, Ok, Err, false, true, ap, inl, subst, sym, inr, refl, ◌∙◌, map, GridRules, Answers, Fail, without_places, LayerStands, KeptLayer, ReadsKeptIn, plain, FeatureCounts, wide_pad_covers, WidePad, layer_findings, Drilled, Finding, HasLayerView, is_copper_function, layer_view, HolesView, HasTriedIn, HasTriedPadsOf, JudgesCopper, not_copper, Judged, LayerReader, Vec}
 use Rattle.grid_units.specs.declared.fault.Fail.TheVariants as fails
 use Rattle.layer_features.specs.declared.keep.Keep.TheVariants as keep
-use Rattle.layer_image.specs.declared.reader.LayerReader.{LayerReader}
-use Rattle.std.specs.Global.{Vec}
 use Rattle.package_check.specs.declared.contents.Content.TheVariants as content
 use Rattle.board.specs.declared.FileSum.TheVariants as sum
 

@@ -1,6 +1,5 @@
 -- The copper files of a board.
-use Rattle.package_check.proofs.Common.{◌≡◌, ◌+◌, ◌∙◌, ◌∷◌, ℕ, suc, List, [], length, ap, refl, sym, enumerate_from, flat_map, flat_map-cons, BoardView, Content, index_of, pads_of, ◌++◌}
-use Rattle.package_check.specs.Boards.{LayersHaveFiles}
+use Rattle.package_check.proofs.Common.{◌≡◌, ◌+◌, ◌∙◌, ◌∷◌, ℕ, suc, List, [], length, ap, refl, sym, enumerate_from, flat_map, flat_map-cons, BoardView, Content, index_of, pads_of, ◌++◌, LayersHaveFiles}
 use Rattle.package_check.specs.declared.contents.Content.TheVariants as content
 
 -- each copper file is one layer, and has one index

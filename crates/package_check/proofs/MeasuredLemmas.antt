@@ -1,16 +1,8 @@
 -- A package passes under just the rules that it meets.
-use Rattle.std.proofs.Common.{◌≡◌, ℕ, List, Err, IfOk, refl, sym, ap, ◌∙◌, Result, Ok}
-use Rattle.grid_units.specs.Holes.{GridRules}
-use Rattle.grid_units.specs.declared.profile.Profile.{Profile}
-use Rattle.pad_shapes.specs.WidePads.{wide_pad_covers}
+use Rattle.package_check.proofs.Common.{◌≡◌, ℕ, List, Err, IfOk, refl, sym, ap, ◌∙◌, GridRules, Profile, wide_pad_covers, report_of_board, IsAnswer, IsReport, FileView, Fault, AnswerIsUnique, ReportView, PackageFault}
+use Rattle.std.proofs.Common.{Result, Ok}
 use Rattle.board.specs.Meets.{GapsPassExactly, RingsPassExactly}
-use Rattle.package_check.specs.Boards.{report_of_board}
-use Rattle.package_check.specs.Package.{IsAnswer, IsReport, FileView}
 use Rattle.package_check.specs.Measures.{AnswersMeasure, MeasuredPasses, PackagePasses, RefusesAlike}
-use Rattle.grid_units.specs.declared.fault.Fault.{Fault}
-use Rattle.package_check.specs.AlikePackages.{AnswerIsUnique}
-use Rattle.package_check.specs.Reports.{ReportView}
-use Rattle.package_check.specs.declared.PackageFault.{PackageFault}
 use Rattle.package_check.specs.declared.PackageFault.TheVariants as stop
 use Rattle.package_check.proofs.BoardsLemmas.{reported_on}
 use Rattle.package_check.proofs.FlashReadingLemmas.{err_same, ok_or_err, ok_same}

@@ -1,8 +1,6 @@
 -- A sound package has no oblique plated slot in the strict profile.
-use Rattle.package_check.proofs.Common.{◌≡◌, ◌<◌, ◌≤◌, ◌+◌, ◌-◌, ℕ, zero, suc, Bool, true, false, not, cond, ◌&&◌, leb, List, [], ◌∷◌, Option, Some, None, length, get_or, arith, refl, sym, ap, subst, ◌∙◌, AllZip, Contains, count_by, filter, flat_map, le-leb, sum_by-cons, GridHole, Profile, Strict, Wide, LayerSpan, is_in_span, Drilled, DrillCommand, Role, FileView, is_copper, AreDrilledBy, HolesAreSaidOnce, IsRun, SoundIsStraight, LiesAsAllowed, SaysHoles, SaysPads, both_ways}
-use Rattle.std.proofs.lemmas.Slice.Zip.{AllZip-long}
+use Rattle.package_check.proofs.Common.{◌≡◌, ◌<◌, ◌≤◌, ◌+◌, ◌-◌, ℕ, zero, suc, Bool, true, false, not, cond, ◌&&◌, leb, List, [], ◌∷◌, Option, Some, None, length, get_or, arith, refl, sym, ap, subst, ◌∙◌, AllZip, Contains, count_by, filter, flat_map, le-leb, sum_by-cons, GridHole, Profile, Strict, Wide, LayerSpan, is_in_span, Drilled, DrillCommand, Role, FileView, is_copper, AreDrilledBy, HolesAreSaidOnce, IsRun, SoundIsStraight, LiesAsAllowed, SaysHoles, SaysPads, both_ways, AllZip-long, flat_map_at}
 use Rattle.pad_shapes.specs.Shapes.{IsAxisAligned}
-use Rattle.grid_units.proofs.ListLemmas.{flat_map_at}
 use Rattle.manifest.specs.declared.Role.TheVariants as role
 use Rattle.package_check.proofs.MarkedLemmas.{marked_span}
 use Rattle.package_check.proofs.WrittenPackages.{hole_among}

@@ -1,8 +1,7 @@
 -- A package that passes is sound by what is read of it.
-use Rattle.package_check.proofs.Common.{◌≡◌, ◌<◌, ◌+◌, ◌++◌, ℕ, Bool, true, List, [], ◌∷◌, length, get_or, map, ap, refl, sym, ◌∙◌, subst, Contains, flat_map, enumerate_from, map-append, flat_map-cons, GridHole, Profile, Strict, Wide, IsInWidePad, wide_pad_covers, WidePad, HolesHoldWithoutFindings, StraightWithoutFindings, ApartWithoutFindings, AreAllApart, IsHoleHeld, LayerSpan, is_in_span, ring_findings, gap_findings, Drilled, Numbered, Content, holes_of_all, holes_of, layers, LiesAsAllowed, PassingIsSoundAsRead, IsPlatedThrough, drilled_in}
+use Rattle.package_check.proofs.Common.{◌≡◌, ◌<◌, ◌+◌, ◌++◌, ℕ, Bool, true, List, [], ◌∷◌, length, get_or, map, ap, refl, sym, ◌∙◌, subst, Contains, flat_map, enumerate_from, map-append, flat_map-cons, GridHole, Profile, Strict, Wide, IsInWidePad, wide_pad_covers, WidePad, HolesHoldWithoutFindings, StraightWithoutFindings, ApartWithoutFindings, AreAllApart, IsHoleHeld, LayerSpan, is_in_span, ring_findings, gap_findings, Drilled, Numbered, Content, holes_of_all, holes_of, layers, LiesAsAllowed, PassingIsSoundAsRead, IsPlatedThrough, drilled_in, append_nil_left, append_nil_right, flat_map_at}
 use Rattle.std.specs.Prelude.{Option}
 use Rattle.package_check.specs.declared.contents.Content.TheVariants as content
-use Rattle.grid_units.proofs.ListLemmas.{append_nil_left, append_nil_right, flat_map_at}
 
 -- what an element gives is among what all give
 flat_among : {X Y : Type 0} (f : X → List Y) (xs : List X) (x : X) (y : Y) → Contains xs x → Contains (f x) y → Contains (flat_map f xs) y

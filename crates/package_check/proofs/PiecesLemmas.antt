@@ -1,6 +1,5 @@
 -- Texts that come in pieces.
-use Rattle.package_check.proofs.Common.{◌≡◌, ℕ, ◌+◌, ◌<◌, List, [], ◌∷◌, ◌++◌, length, map, take, drop, get_or, sym, ap, subst, ◌∙◌, Bor, concat, append-nil, map-append, take-append-drop, take_more, Fault, Fail, IfFault, Profile, ShowsLayerFaultIn}
-use Rattle.std.proofs.lemmas.List.Folds.{concat-append}
+use Rattle.package_check.proofs.Common.{◌≡◌, ℕ, ◌+◌, ◌<◌, List, [], ◌∷◌, ◌++◌, length, map, take, drop, get_or, sym, ap, subst, ◌∙◌, Bor, concat, append-nil, map-append, take-append-drop, take_more, Fault, Fail, IfFault, Profile, ShowsLayerFaultIn, concat-append}
 use Rattle.grid_units.specs.declared.fault.Fail.TheVariants as fails
 
 -- ---- joining

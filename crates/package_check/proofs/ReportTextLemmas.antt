@@ -1,7 +1,6 @@
 -- The lines of a report, one after another.
-use Rattle.package_check.proofs.Common.{◌≡◌, ◌<◌, ◌≤◌, ◌+◌, ◌++◌, ℕ, zero, suc, List, [], ◌∷◌, Bor, length, map, drop, get_or, arith, refl, ap, sym, ◌∙◌, append_assoc, append-nil, FileSum, Profile, Setting, file_view, file_line, file_lines, length-map}
+use Rattle.package_check.proofs.Common.{◌≡◌, ◌<◌, ◌≤◌, ◌+◌, ◌++◌, ℕ, zero, suc, List, [], ◌∷◌, Bor, length, map, drop, get_or, arith, refl, ap, sym, ◌∙◌, append_assoc, append-nil, FileSum, Profile, Setting, file_view, file_line, file_lines, length-map, drop_all}
 use Rattle.package_check.specs.declared.File.{File}
-use Rattle.std.proofs.lemmas.List.{drop_all}
 
 abbrev pub texts_of : List (Bor (List ℕ)) → List (List ℕ)
 texts_of names = map (λ name. name.now) names

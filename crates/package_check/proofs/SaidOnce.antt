@@ -1,12 +1,7 @@
 -- What a file says by the grammar of its format, it says once.
-use Rattle.package_check.proofs.Common.{◌≡◌, List, map, ap, sym, subst, ◌∙◌, GridHole, Drilled, Command, Profile, Strict, Wide, WidePad, LayerSpan, CalledIsListed, Role, holes_with_platings, plain, DrillCommand, AreDrilledBy, HolesAreSaidOnce, MakePads, PadsAreSaidOnce}
-use Rattle.gerber_text.specs.Laws.{TextsSpellOneListIn}
+use Rattle.package_check.proofs.Common.{◌≡◌, List, map, ap, sym, subst, ◌∙◌, GridHole, Drilled, Command, Profile, Strict, Wide, WidePad, LayerSpan, CalledIsListed, Role, holes_with_platings, plain, DrillCommand, AreDrilledBy, HolesAreSaidOnce, MakePads, PadsAreSaidOnce, TextsSpellOneListIn, WidePadsAreUnique, PadsAreUnique, AreHoles, DrillsAtMostOneList, IsTextOfAtMostOne}
 use Rattle.std.specs.Prelude.{Option}
 use Rattle.manifest.specs.declared.Role.TheVariants as role
-use Rattle.layer_features.specs.CopperLaws.{WidePadsAreUnique}
-use Rattle.layer_image.specs.PadLaws.{PadsAreUnique}
-use Rattle.drill_text.specs.Drilling.{AreHoles}
-use Rattle.drill_text.specs.Laws.{DrillsAtMostOneList, IsTextOfAtMostOne}
 
 makes_once : PadsAreUnique → WidePadsAreUnique → (profile : Profile) (commands : List Command) (a b : List WidePad) → MakePads profile commands a → MakePads profile commands b → a ≡ b
 makes_once one_list wide_list Strict commands a b h k = h.2 ∙ (ap (map plain) (one_list commands h.0 k.0 h.1 k.1) ∙ sym k.2)

@@ -1,18 +1,12 @@
 -- What the wide profile says of the files of a board that was read in the strict one.
-use Rattle.package_check.proofs.Common.{◌≡◌, inl, inr, ◌↔◌, ◌<◌, ◌+◌, ◌++◌, ◌||◌, ◌&&◌, ℕ, suc, Bool, true, false, not, List, [], ◌∷◌, Option, Result, Ok, Err, length, map, get_or, arith, refl, ap, ap₂, sym, subst, ◌∙◌, ⊤, option_map, or_cases, AllByRecursion, cons_option, enumerate_from, filter, flat_map, list_any, length-map, flat_map-cons, LayerSpan, Fault, GridRules, Profile, Strict, Wide, DrillCommand, calls_plated, IsDrillText, without_places, LayerImage, ReadingIsUniqueIn, ReadsLayerIn, StrictLayers, Feature, wide_pad_covers, WidePad, Role, finding_of, gap_findings, is_refused_slot, layer_findings, ring_findings, is_in_span, Drilled, Finding, DrillView, LayerView, HasContours, HasLayerView, HasMacros, FileView, BytesHaveContent, HaveContents, IsFirstRefused, IsReport, IsAnswer, AnswerExists, AreFileLists, BoardView, OfCopper, holes_of_all, index_of, is_copper, layers, pads_of, report_on, sum_of, ReportView, IsUncontradicted, ReadIsUncontradicted, WideFindsNoMore, read_in, Numbered, Content, both_ways}
+use Rattle.package_check.proofs.Common.{◌≡◌, inl, inr, ◌↔◌, ◌<◌, ◌+◌, ◌++◌, ◌||◌, ◌&&◌, ℕ, suc, Bool, true, false, not, List, [], ◌∷◌, Option, Result, Ok, Err, length, map, get_or, arith, refl, ap, ap₂, sym, subst, ◌∙◌, ⊤, option_map, or_cases, AllByRecursion, cons_option, enumerate_from, filter, flat_map, list_any, length-map, flat_map-cons, LayerSpan, Fault, GridRules, Profile, Strict, Wide, DrillCommand, calls_plated, IsDrillText, without_places, LayerImage, ReadingIsUniqueIn, ReadsLayerIn, StrictLayers, Feature, wide_pad_covers, WidePad, Role, finding_of, gap_findings, is_refused_slot, layer_findings, ring_findings, is_in_span, Drilled, Finding, DrillView, LayerView, HasContours, HasLayerView, HasMacros, FileView, BytesHaveContent, HaveContents, IsFirstRefused, IsReport, IsAnswer, AnswerExists, AreFileLists, BoardView, OfCopper, holes_of_all, index_of, is_copper, layers, pads_of, report_on, sum_of, ReportView, IsUncontradicted, ReadIsUncontradicted, WideFindsNoMore, read_in, Numbered, Content, both_ways, GridPoint, FeatureKind, contour_pad, macro_pad, pad_in, strict_kind_of, strict_view, uncounted_contours, uncounted_macros, wide_features_of, Plain, Rounded, list_any-append, WideAnswersByBoard, is_called_plated, in_wide, layer_rings, wide_rings, or_is_false}
 use Rattle.drill_text.specs.Profiles as drills
-use Rattle.grid_units.specs.Points.{GridPoint}
 use Rattle.pad_shapes.specs.Holding.{covers_hole}
-use Rattle.layer_features.specs.declared.feature.FeatureKind.{FeatureKind}
 use Rattle.layer_features.specs.declared.feature.FeatureKind.TheVariants as kind
-use Rattle.layer_features.specs.Features.{contour_pad, macro_pad, pad_in, pads_of as feature_pads, strict_kind_of, strict_view, uncounted_contours, uncounted_macros, wide_features_of}
-use Rattle.pad_shapes.specs.declared.wide_pad.WidePad.TheVariants.{Plain, Rounded}
+use Rattle.layer_features.specs.Features.{pads_of as feature_pads}
 use Rattle.manifest.specs.declared.Role.TheVariants as role
-use Rattle.std.proofs.lemmas.List.Folds.{list_any-append}
 use Rattle.package_check.specs.declared.contents.Content.TheVariants as content
-use Rattle.package_check.specs.WiderProfile.{WideAnswersByBoard, is_called_plated, in_wide, layer_rings, wide_rings}
 use Rattle.package_check.proofs.Passing.{all_drilled}
-use Rattle.grid_units.proofs.BoolLemmas.{or_is_false}
 use Rattle.package_check.proofs.FlashReadingLemmas.{ok_same}
 
 -- ---- the pads of a layer
@@ -56,8 +50,8 @@ any_pad test (f ∷ fs) = by f.at f.what (any_pad test fs)
         → list_any test (cons_option (pad_in k) (feature_pads fs))
         ≡ ((list_any test (feature_pads (cons_option (option_map (λ (j : FeatureKind). record { at = at; what = j }) (strict_kind_of k)) (strict_view fs))) || list_any test (cons_option (macro_pad k) (uncounted_macros Strict fs)))
         || list_any test (cons_option (contour_pad k) (uncounted_contours Strict fs)))
-    by at (kind.Pad (Plain pad)) rest = ap (λ (b : Bool). test (Plain pad) || b) rest ∙ first (test (Plain pad)) (of_plain test fs) (of_macros test fs) (of_contours test fs)
-    by at (kind.Pad (Rounded pad)) rest = ap (λ (b : Bool). test (Rounded pad) || b) rest ∙ second (test (Rounded pad)) (of_plain test fs) (of_macros test fs) (of_contours test fs)
+    by at (kind.Pad pad) rest = ap (λ (b : Bool). test (Plain pad) || b) rest ∙ first (test (Plain pad)) (of_plain test fs) (of_macros test fs) (of_contours test fs)
+    by at (kind.Shape pad reason) rest = ap (λ (b : Bool). test (Rounded pad) || b) rest ∙ second (test (Rounded pad)) (of_plain test fs) (of_macros test fs) (of_contours test fs)
     by at (kind.Contour pad) rest = ap (λ (b : Bool). test (Rounded pad) || b) rest ∙ third (test (Rounded pad)) (of_plain test fs) (of_macros test fs) (of_contours test fs)
     by at k rest = rest
 

@@ -1,14 +1,10 @@
 -- What files say in the strict profile, they say in the wide one, with further pads.
-use Rattle.package_check.proofs.Common.{◌≡◌, ◌⊎◌, inl, inr, ◌↔◌, ◌<◌, ◌+◌, ◌++◌, ℕ, zero, suc, Bool, true, false, List, [], ◌∷◌, Option, Ok, length, map, get_or, arith, refl, ap, ap₂, sym, subst, ◌∙◌, ⊤, option_map, AllByRecursion, Contains, cons_option, enumerate_from, filter, flat_map, list_any, flat_map-cons, Contains-append_cases, Contains-append_left, LayerSpan, Strict, Wide, DrillCommand, calls_plated, ReadsBy, ReadsIn, mixed_in, unplated_in, IsDrillText, without_places, StrictLayers, Feature, wide_pad_covers, WidePad, Role, gap_findings, ring_findings, Finding, DrillView, LayerView, HasLayerView, ReadsDrill, layer_view, FileView, BytesHaveContent, HaveContents, holes_of_all, holes_of, index_of, layers, numbered_holes, pads_of, report_on, FindsNoMore, IsUncontradicted, WideFindsNoMore, is_gap, read_in, Numbered, Content, both_ways}
+use Rattle.package_check.proofs.Common.{◌≡◌, ◌⊎◌, inl, inr, ◌↔◌, ◌<◌, ◌+◌, ◌++◌, ℕ, zero, suc, Bool, true, false, List, [], ◌∷◌, Option, Ok, length, map, get_or, arith, refl, ap, ap₂, sym, subst, ◌∙◌, ⊤, option_map, AllByRecursion, Contains, cons_option, enumerate_from, filter, flat_map, list_any, flat_map-cons, Contains-append_cases, Contains-append_left, LayerSpan, Strict, Wide, DrillCommand, calls_plated, ReadsBy, ReadsIn, mixed_in, unplated_in, IsDrillText, without_places, StrictLayers, Feature, wide_pad_covers, WidePad, Role, gap_findings, ring_findings, Finding, DrillView, LayerView, HasLayerView, ReadsDrill, layer_view, FileView, BytesHaveContent, HaveContents, holes_of_all, holes_of, index_of, layers, numbered_holes, pads_of, report_on, FindsNoMore, IsUncontradicted, WideFindsNoMore, is_gap, read_in, Numbered, Content, both_ways, GridPoint, FeatureKind, pad_in, strict_kind_of, strict_view, wide_features_of, Plain, Rounded, Ring, Oblique}
 use Rattle.drill_text.specs.Profiles as drills
-use Rattle.grid_units.specs.Points.{GridPoint}
-use Rattle.layer_features.specs.declared.feature.FeatureKind.{FeatureKind}
 use Rattle.layer_features.specs.declared.feature.FeatureKind.TheVariants as kind
-use Rattle.layer_features.specs.Features.{pad_in, pads_of as feature_pads, strict_kind_of, strict_view, wide_features_of}
-use Rattle.pad_shapes.specs.declared.wide_pad.WidePad.TheVariants.{Plain, Rounded}
+use Rattle.layer_features.specs.Features.{pads_of as feature_pads}
 use Rattle.manifest.specs.declared.Role.TheVariants as role
 use Rattle.ring_rules.specs.WithoutFindings.{FindsNoObliqueInWide, WideFindsNoMore as RingsFindNoMore}
-use Rattle.ring_rules.specs.declared.finding.Finding.TheVariants.{Ring, Oblique}
 use Rattle.package_check.specs.declared.contents.Content.TheVariants as content
 use Rattle.package_check.proofs.WiderFindings.{gaps_among, gaps_are, is_among, rings_are}
 
@@ -23,11 +19,11 @@ strict_among (f ∷ fs) w = by f.at f.what (strict_among fs w)
   where
     by : (at : GridPoint) (k : FeatureKind) → (Contains (feature_pads (strict_view fs)) w → Contains (feature_pads fs) w)
         → Contains (feature_pads (cons_option (option_map (λ (j : FeatureKind). record { at = at; what = j }) (strict_kind_of k)) (strict_view fs))) w → Contains (cons_option (pad_in k) (feature_pads fs)) w
-    by at (kind.Pad (Plain pad)) rest h = elim (Contains-append_cases (Plain pad ∷ []) (feature_pads (strict_view fs)) w h) [
+    by at (kind.Pad pad) rest h = elim (Contains-append_cases (Plain pad ∷ []) (feature_pads (strict_view fs)) w h) [
       | inl here ↦ Contains-append_left (Plain pad ∷ []) (feature_pads fs) w here
       | inr there ↦ later w (Plain pad) (feature_pads fs) (rest there)
     ]
-    by at (kind.Pad (Rounded pad)) rest h = later w (Rounded pad) (feature_pads fs) (rest h)
+    by at (kind.Shape pad reason) rest h = later w (Rounded pad) (feature_pads fs) (rest h)
     by at (kind.Contour pad) rest h = later w (Rounded pad) (feature_pads fs) (rest h)
     by at k rest h = rest h
 

@@ -1,7 +1,5 @@
 -- Which findings are those of gaps.
-use Rattle.package_check.proofs.Common.{◌≡◌, ◌<◌, ◌++◌, ℕ, zero, suc, Bool, true, false, cond, List, [], ◌∷◌, length, map, get_or, arith, refl, ap, sym, subst, ◌∙◌, AllByRecursion, Contains, enumerate_from, filter, flat_map, flat_map-cons, Profile, finding_of, gap_findings, hole_findings, is_refused_slot, is_ring_finding, layer_findings, ring_findings, Drilled, Finding, is_gap}
-use Rattle.grid_units.specs.Points.{GridPoint}
-use Rattle.ring_rules.specs.declared.finding.Finding.TheVariants.{Ring, Oblique, Gap}
+use Rattle.package_check.proofs.Common.{◌≡◌, ◌<◌, ◌++◌, ℕ, zero, suc, Bool, true, false, cond, List, [], ◌∷◌, length, map, get_or, arith, refl, ap, sym, subst, ◌∙◌, AllByRecursion, Contains, enumerate_from, filter, flat_map, flat_map-cons, Profile, finding_of, gap_findings, hole_findings, is_refused_slot, is_ring_finding, layer_findings, ring_findings, Drilled, Finding, is_gap, GridPoint, Ring, Oblique, Gap}
 
 -- each of some findings is that of a gap, or none is, as `t` says
 abbrev pub Are : Bool → List Finding → Type 0

@@ -1,17 +1,12 @@
 -- What is sound by what is read of it is sound by what is written.
-use Rattle.package_check.proofs.Common.{◌≡◌, ◌↔◌, ◌⊎◌, inl, inr, ◌<◌, ℕ, zero, suc, Bool, true, false, not, ◌||◌, ◌&&◌, leb, List, [], ◌∷◌, ◌++◌, map, length, get_or, refl, sym, ap, subst, ◌∙◌, arith, AllZip, Contains, filter, flat_map, leb-true, flat_map-cons, Contains-append_cases, GridHole, LayerSpan, is_in_span, Profile, Strict, Wide, WidePad, Drilled, AreAllApart, Command, without_places, KindsReadTheSame, ListedIsCalled, plated_of, ReadsIn, mixed_in, Fault, DrillCommand, Role, DrillView, LayerView, plain, HasLayerView, ReadsDrill, drill_kind, is_copper_function, Content, FileView, Setting, HasContent, HasDrillContent, HasMixedContent, HaveContents, is_bad_span, is_copper, layers, pads_of, AreDrilledBy, IsRun, MakePads, SaysHoles, SaysPads, IsPlatedThrough, SoundAsReadIsSound, drilled_in}
+use Rattle.package_check.proofs.Common.{◌≡◌, ◌↔◌, ◌⊎◌, inl, inr, ◌<◌, ℕ, zero, suc, Bool, true, false, not, ◌||◌, ◌&&◌, leb, List, [], ◌∷◌, ◌++◌, map, length, get_or, refl, sym, ap, subst, ◌∙◌, arith, AllZip, Contains, filter, flat_map, leb-true, flat_map-cons, Contains-append_cases, GridHole, LayerSpan, is_in_span, Profile, Strict, Wide, WidePad, Drilled, AreAllApart, Command, without_places, KindsReadTheSame, ListedIsCalled, plated_of, ReadsIn, mixed_in, Fault, DrillCommand, Role, DrillView, LayerView, plain, HasLayerView, ReadsDrill, drill_kind, is_copper_function, Content, FileView, Setting, HasContent, HasDrillContent, HasMixedContent, HaveContents, is_bad_span, is_copper, layers, pads_of, AreDrilledBy, IsRun, MakePads, SaysHoles, SaysPads, IsPlatedThrough, SoundAsReadIsSound, drilled_in, SpelledTextsAreWrittenIn, LegalWidePads, LayerPads, ListedHolesAreDrilled, ReadIsWritten, SpelledIsWritten, WideHolesAreDrilled, AreHoles}
 use Rattle.std.specs.Prelude.{Option, None, Some, Result, Ok}
 use Rattle.grid_units.specs.Lists.{last_set}
 use Rattle.gerber_text.specs.Grammar.{IsTextIn}
-use Rattle.gerber_text.specs.Laws.{SpelledTextsAreWrittenIn}
-use Rattle.layer_features.specs.CopperLaws.{LegalWidePads}
 use Rattle.layer_features.specs.WidePads.{AreWidePads}
-use Rattle.layer_image.specs.PadLaws.{LayerPads}
 use Rattle.layer_state.specs.FileFunction.{function_set}
 use Rattle.layer_state.specs.Flashes.{flashes_of}
 use Rattle.layer_image.proofs.KeptLemmas.{plain_of_flashes}
-use Rattle.drill_text.specs.Laws.{ListedHolesAreDrilled, ReadIsWritten, SpelledIsWritten, WideHolesAreDrilled}
-use Rattle.drill_text.specs.Drilling.{AreHoles}
 use Rattle.drill_text.specs.Grammar.{IsText}
 use Rattle.drill_text.specs.Holes.{holes_of}
 use Rattle.drill_text.specs.Profiles.{Reads}

@@ -37,6 +37,7 @@ fn keeps_mark<S: PadShape>(index: &RingIndex, pad: &S, i: usize, mark: bool) -> 
 
 impl<S: PadShape> RingSearch<'_, S> {
     /// Removes the marks of the spots of a run to whose holes the pad gives their ring, and returns whether a mark is left.
+    #[inline(always)]
     pub(crate) fn try_run(&self, run: Run, marks: &mut [bool]) -> bool
         requires within { run.end ≤ length self.now.index.now.cells.spots }
         requires size { length marks.old ≡ length self.now.index.now.cells.spots }

@@ -19,17 +19,18 @@ pub(crate) struct Node {
     pub end: usize,
 }
 
-/// Where to begin in a tree for the spots of a run: at the largest node that begins with them, or at the leaf that has the first of them;
-/// past the end where they are few, so that they are looked at one by one. Any answer is right: only the time depends on it.
+/// Where to begin in a tree for the spots of a run: at the last node that begins where it begins, or before; past the end where they are
+/// few, so that they are looked at one by one. Any answer is right: only the time depends on it.
 pub(crate) fn first_node(nodes: &[Node], run: Run) -> usize {
     if run.end.saturating_sub(run.start) <= FEW_SPOTS {
         return nodes.len();
     }
-    let i = nodes.partition_point(|node| node.run.start < run.start);
-    match nodes.get(i) {
-        Some(node) if node.run.start == run.start => i,
-        _ => i.saturating_sub(1),
+    if run.start == 0 {
+        return 0;
     }
+    nodes
+        .partition_point(|node| node.run.start <= run.start)
+        .saturating_sub(1)
 }
 
 /// The least zone that contains the entry points of the spots of a run.

@@ -118,6 +118,8 @@ impl<S: PadShape> RingSearch<'_, S> {
     }
 
     /// Tries the pad at the holes of a run: one after the other where they are few, else down the tree.
+    // In line, as what it calls: most pads lie over a cell or two, with few holes.
+    #[inline(always)]
     pub(crate) fn try_tree(&self, run: Run, open_nodes: &mut [bool], marks: &mut [bool])
         requires over { AreMarksOver self.now.index.now open_nodes.old marks.old }
         requires within { run.end ≤ length self.now.index.now.cells.spots }

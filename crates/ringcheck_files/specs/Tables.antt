@@ -43,14 +43,10 @@ reason_word whys.Holed = codes "holed"
 reason_word whys.Scaled = codes "scaled"
 reason_word whys.Turned = codes "turned"
 
--- the name of a pad of the wide profile: that of its shape, or `rounded`
-abbrev pub pad_word : WidePad → List ℕ
-pad_word (Plain pad) = shape_word pad
-pad_word (Rounded pad) = codes "rounded"
-
--- the second field: the name of a flash's pad, `contour`, why a flash is no pad, or `clear` or `cleared`
+-- the second field: the name of a flash's pad, `rounded` of one by the shape of its aperture; `contour`; why a flash is no pad; or `clear` or `cleared`
 abbrev pub feature_word : FeatureKind → List ℕ
-feature_word (kind.Pad pad) = pad_word pad
+feature_word (kind.Pad pad) = shape_word pad
+feature_word (kind.Shape pad why) = codes "rounded"
 feature_word (kind.Contour pad) = codes "contour"
 feature_word (kind.Other why) = reason_word why
 feature_word (kind.Macro why) = reason_word why

@@ -2,14 +2,14 @@
 
 ghost use Rattle.std.specs.Prelude.{decimal, ◌≡◌, ◌≤◌, ◌++◌, IfOk, map, length};
 ghost use Rattle.ringcheck_files.specs.Rows.{NeedNoQuotes, NeedsNoQuotes, row};
-ghost use Rattle.ringcheck_files.specs.Tables.{feature_fields, feature_word, hole_fields, pad_word, reason_word, shape_word};
+ghost use Rattle.ringcheck_files.specs.Tables.{feature_fields, feature_word, hole_fields, reason_word, shape_word};
 
 use crate::sides::{height_of, length_field, width_of};
 use grid_units::Hole;
 use itoa::Buffer;
 use layer_features::{Feature, FeatureKind};
 use manifest::table::Table;
-use pad_shapes::{Pad, Why, WidePad};
+use pad_shapes::{Pad, Why};
 use std::alloc::AllocError;
 
 fn shape_word(pad: &Pad) -> &'static str
@@ -36,22 +36,13 @@ fn reason_word(why: Why) -> &'static str
     }
 }
 
-fn pad_word(pad: &WidePad) -> &'static str
-    ensures text { result.now ≡ pad_word pad.now }
-    ensures plain { NeedsNoQuotes result.now }
-{
-    match pad {
-        WidePad::Plain(pad) => shape_word(pad),
-        WidePad::Rounded(_) => "rounded",
-    }
-}
-
 fn feature_word(what: &FeatureKind) -> &'static str
     ensures text { result.now ≡ feature_word what.now }
     ensures plain { NeedsNoQuotes result.now }
 {
     match what {
-        FeatureKind::Pad(pad) => pad_word(pad),
+        FeatureKind::Pad(pad) => shape_word(pad),
+        FeatureKind::Shape(_, _) => "rounded",
         FeatureKind::Contour(_) => "contour",
         FeatureKind::Other(why) | FeatureKind::Macro(why) => reason_word(*why),
         FeatureKind::Clear => "clear",

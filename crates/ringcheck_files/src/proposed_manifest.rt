@@ -144,7 +144,7 @@ fn text_of_held(
     loaded: &[LoadedFile],
 ) -> Result<Vec<u8>, AllocError>
     requires { length names.now ≡ length loaded.now }
-    ensures { IfOk result (λ text. (files : List TheNamed) × (map loaded_file files ≡ loaded_files names.now loaded.now) × IsProposalText profile why files text.items) }
+    ensures { IfOk result (λ text. (all : List TheNamed) × (map loaded_file all ≡ loaded_files names.now loaded.now) × IsProposalText profile why all text.items) }
 {
     let files = files_of(alloc, names, loaded)?;
     text_of(alloc, profile, why, files.as_slice())

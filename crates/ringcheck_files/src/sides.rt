@@ -6,13 +6,13 @@ ghost use Rattle.grid_units.specs.Points.{abs_diff};
 ghost use Rattle.grid_units.specs.Spellings.{millimetres, places};
 ghost use Rattle.pad_shapes.specs.Rounded.{rounded_bottom, rounded_left, rounded_right, rounded_top};
 ghost use Rattle.ringcheck_files.specs.Rows.{NeedsNoQuotes};
-ghost use Rattle.ringcheck_files.specs.Tables.{height_of, wide_pad_height, wide_pad_width, width_of};
+ghost use Rattle.ringcheck_files.specs.Tables.{height_of, width_of};
 
 use arrayvec::ArrayString;
 use grid_units::write_mm;
 use itoa::Buffer;
 use layer_features::FeatureKind;
-use pad_shapes::{PlacedRounded, WidePad};
+use pad_shapes::PlacedRounded;
 
 /// How many pm are a millimetre.
 const MILLIMETRE: u64 = 1_000_000_000;
@@ -26,28 +26,6 @@ fn rounded_sides(pad: &PlacedRounded) -> (u64, u64)
     let bounds = pad.bounds();
     let width = bounds.right.abs_diff(bounds.left);
     (width, bounds.top.abs_diff(bounds.bottom))
-}
-
-/// The width of a pad of the wide profile in pm.
-fn wide_pad_width(pad: &WidePad) -> u64
-    ensures value { result ≡ wide_pad_width pad.now }
-    ensures within { result ≤ 3 * 10 ^ 13 }
-{
-    match pad {
-        WidePad::Plain(pad) => pad.width() as u64,
-        WidePad::Rounded(pad) => rounded_sides(pad).0,
-    }
-}
-
-/// The height of a pad of the wide profile in pm.
-fn wide_pad_height(pad: &WidePad) -> u64
-    ensures value { result ≡ wide_pad_height pad.now }
-    ensures within { result ≤ 3 * 10 ^ 13 }
-{
-    match pad {
-        WidePad::Plain(pad) => pad.height() as u64,
-        WidePad::Rounded(pad) => rounded_sides(pad).1,
-    }
 }
 
 /// A length in pm of at most 10 m as a field: millimetres with nine decimals, such as `0.650000000`.
@@ -101,8 +79,8 @@ pub(crate) fn width_of(what: &FeatureKind) -> ArrayString<16>
     ensures plain { NeedsNoQuotes result.bytes }
 {
     match what {
-        FeatureKind::Pad(pad) => side_field(wide_pad_width(pad)),
-        FeatureKind::Contour(pad) => side_field(rounded_sides(pad).0),
+        FeatureKind::Pad(pad) => side_field(pad.width() as u64),
+        FeatureKind::Shape(pad, _) | FeatureKind::Contour(pad) => side_field(rounded_sides(pad).0),
         FeatureKind::Other(_) | FeatureKind::Macro(_) | FeatureKind::Clear | FeatureKind::Cleared =>
             ArrayString::new(),
     }
@@ -114,8 +92,8 @@ pub(crate) fn height_of(what: &FeatureKind) -> ArrayString<16>
     ensures plain { NeedsNoQuotes result.bytes }
 {
     match what {
-        FeatureKind::Pad(pad) => side_field(wide_pad_height(pad)),
-        FeatureKind::Contour(pad) => side_field(rounded_sides(pad).1),
+        FeatureKind::Pad(pad) => side_field(pad.height() as u64),
+        FeatureKind::Shape(pad, _) | FeatureKind::Contour(pad) => side_field(rounded_sides(pad).1),
         FeatureKind::Other(_) | FeatureKind::Macro(_) | FeatureKind::Clear | FeatureKind::Cleared =>
             ArrayString::new(),
     }

@@ -4,7 +4,7 @@ use Rattle.std.specs.Option.{option_or, option_and_then, option_map, option_to_l
 use Rattle.std.specs.List.{list_any}
 use Rattle.indexmap.specs.IndexMap.{get}
 use Rattle.grid_units.specs.declared.fault.Reason.{Reason}
-use Rattle.grid_units.specs.declared.fault.Reason.TheVariants.{TooFar, TooManyHoles, NoPlating, PlatingConflict}
+use Rattle.grid_units.specs.declared.fault.Reason.TheVariants.{TooFar, TooManyHoles, NoPlating, PlatingConflict, Redefined}
 use Rattle.grid_units.specs.Results.{◌>>=◌}
 use Rattle.grid_units.specs.Lists.{last_set}
 use Rattle.grid_units.specs.Points.{GridPoint, max_coordinate}
@@ -26,11 +26,12 @@ use Rattle.drill_text.specs.declared.platings.PlatingKind.TheVariants as kinds
 use Rattle.drill_text.specs.declared.platings.PlatingWords.{PlatingWords}
 use Rattle.drill_text.specs.declared.platings.Tool.{Tool}
 use Rattle.drill_text.specs.declared.state.DrillState.{DrillState}
-use Rattle.drill_text.specs.Lookback.{StateView, state_after, part_set, unit_set, zeros_set, format_set, ends_header, diameter_set, tool_set, tool_defined, tools_of, points_in, x_set, y_set}
+use Rattle.drill_text.specs.Lookback.{StateView, state_after, part_set, unit_set, zeros_set, format_set, ends_header, diameter_set, tool_set, tools_at, tools_of, points_in, x_set, y_set}
 use Rattle.drill_text.specs.Holes.{DrillPath, coordinate_in, unit_or, hole_of, holes_of}
 use Rattle.drill_text.specs.Outcome.{diameter_of_tool, diameters, kept_platings}
-use Rattle.drill_text.specs.Plating.{calls_plated, calls_unplated, is_plated, is_unsaid, plating_of_tool, plating_set, rule_in, said_after, tool_made}
-use Rattle.drill_text.specs.Rules.{drills, redefines_tool, max_holes, width_with}
+use Rattle.drill_text.specs.Plating.{calls_plated, calls_unplated, is_plated, is_unsaid, plating_of_tool, plating_set, redefines_plating, rule_in, said_after, tool_made}
+use Rattle.drill_text.specs.Profiles.{Kind}
+use Rattle.drill_text.specs.Rules.{defines_alike, drills, first_broken_in, redefines_tool, max_holes, width_with}
 
 -- what stands before the next command, by the fields of the state
 abbrev pub state_of : DrillState → StateView
@@ -51,21 +52,22 @@ plating_in tool = tool.plating
 abbrev pub picked_plating : DrillState → Plating
 picked_plating state = unwrap_or (option_map plating_in state.picked) Unsaid
 
--- the comments of these commands, in a file whose platings are known so, say just this
-pub record AreWordsAfter (words : PlatingWords) (kind : PlatingKind) (before : List DrillCommand) : Type 0 where
-  pub kind_is : words.kind ≡ kind
+-- the comments of these commands, in a file of this kind, say just this
+pub record AreWordsAfter (words : PlatingWords) (kind : Kind) (before : List DrillCommand) : Type 0 where
+  pub profile_is : words.profile ≡ kind.profile
+  pub kind_is : words.kind ≡ kind.plating
   pub said : words.said ≡ said_after before
   pub calls_plated : words.calls_plated ≡ list_any calls_plated before
   pub calls_unplated : words.calls_unplated ≡ list_any calls_unplated before
 
--- the state is that after just these commands of a file whose platings are known so: what stands, the holes, the tools and what is said are theirs
-pub record IsStateAfter (state : DrillState) (kind : PlatingKind) (before : List DrillCommand) : Type 0 where
+-- the state is that after just these commands of a file of this kind: what stands, the holes, the tools and what is said are theirs
+pub record IsStateAfter (state : DrillState) (kind : Kind) (before : List DrillCommand) : Type 0 where
   pub state_after : state_of state ≡ state_after before
   pub holes : state.holes.items ≡ holes_of before
   pub tools : diameters state.tools.entries ≡ tools_of before
   pub words : AreWordsAfter state.words kind before
   pub platings : (number : ℕ) → option_map plating_in (get nat_eq state.tools number) ≡ plating_of_tool before number
-  pub plated : state.plated.items ≡ kept_platings kind before
+  pub plated : state.plated.items ≡ kept_platings kind.plating before
 
 -- the value given last; once the header has ended, a new one is not taken
 abbrev pub given_last : {A : Type 0} → Bool → Option A → Option A → Option A
@@ -156,6 +158,7 @@ at_last_point point s = record { settings = s.settings; header_ended = s.header_
 -- what the comments say after one more command
 abbrev pub heard : DrillCommand → PlatingWords → PlatingWords
 heard c words = record {
+  profile = words.profile;
   kind = words.kind;
   said = unwrap_or (plating_set c) words.said;
   calls_plated = calls_plated c || words.calls_plated;
@@ -167,11 +170,24 @@ abbrev pub mark_of : PlatingKind → Plating → List Bool
 mark_of kinds.Mixed plating = is_plated plating ∷ []
 mark_of _ plating = []
 
--- the rule that files of a kind have beside the others, if a command breaks it once the header has ended or before, where the picked tool is this
-abbrev pub own_broken : PlatingKind → Bool → Plating → DrillCommand → Option Reason
-own_broken kinds.Stated header_ended picked c = None
-own_broken kinds.Unplated header_ended picked c = if calls_plated c then Some PlatingConflict else None
-own_broken kinds.Mixed header_ended picked c = if (drills c && is_unsaid picked) || (is_some (plating_set c) && header_ended) then Some NoPlating else None
+-- the rule that files of a kind have beside the others, if a command breaks it: once the header has ended, or before, with this picked tool, and if it plates a tool otherwise
+abbrev pub own_broken : PlatingKind → Bool → Plating → Bool → DrillCommand → Option Reason
+own_broken kinds.Stated header_ended picked otherwise c = None
+own_broken kinds.Unplated header_ended picked otherwise c = if calls_plated c then Some PlatingConflict else None
+own_broken kinds.Mixed header_ended picked otherwise c =
+    if otherwise then Some Redefined else if (drills c && is_unsaid picked) || (is_some (plating_set c) && header_ended) then Some NoPlating else None
+
+-- a command defines a tool again, and what is said of it now is not what it was
+abbrev pub plates_otherwise : DrillState → DrillCommand → Bool
+plates_otherwise state c = redefines_plating state.words.said (λ number. option_map plating_in (get nat_eq state.tools number)) c
+
+-- the first rule of its profile that a command breaks, by the fields of the state
+abbrev pub broken_in : DrillState → DrillCommand → Option Reason
+broken_in state c = first_broken_in state.words.profile (state_of state) (length state.holes.items) (drill_path (state_of state) c) c
+
+-- the rule of its kind of file that a command breaks, by the same
+abbrev pub own_in : DrillState → DrillCommand → Option Reason
+own_in state c = own_broken state.words.kind state.header_ended (picked_plating state) (plates_otherwise state c) c
 
 -- the rule that files of a kind have of a hole with this plating, if it breaks that
 abbrev pub hole_rule : PlatingKind → Plating → Option Reason
@@ -182,7 +198,8 @@ hole_rule _ plating = None
 pub record Applies (old : DrillState) (c : DrillCommand) (new : DrillState) : Type 0 where
   pub state_after : state_of new ≡ after c (state_of old)
   pub holes : new.holes.items ≡ old.holes.items ++ option_to_list (option_map hole_of (drill_path (state_of old) c))
-  pub tools : redefines_tool (state_of old) c ≡ false → diameters new.tools.entries ≡ diameters old.tools.entries ++ option_to_list (tool_defined c)
+  pub tools : (redefines_tool (state_of old) c ≡ true → defines_alike (state_of old) c ≡ true)
+      → diameters new.tools.entries ≡ diameters old.tools.entries ++ tools_at (state_of old).diameter c
   pub words : new.words ≡ heard c old.words
   pub platings : (number : ℕ) → option_map plating_in (get nat_eq new.tools number) ≡ option_or (tool_made number old.words.said c) (option_map plating_in (get nat_eq old.tools number))
   pub plated : new.plated.items ≡ old.plated.items ++ (if drills c then mark_of old.words.kind (picked_plating old) else [])
@@ -216,11 +233,11 @@ DrillsOrRefuses old first second new (Err (stops.Refused broken)) =
 DrillsOrRefuses old first second new (Err stops.Memory) = Unit {0}
 
 -- The command breaks no rule and was taken in, or it breaks just this one, or memory ran out.
-abbrev pub AppliesOrRefuses : PlatingKind → List DrillCommand → DrillCommand → DrillState → Result (Unit {0}) ItemFail → Type 0
-AppliesOrRefuses kind before c new (Ok _) = (rule_in kind before c ≡ None) × IsStateAfter new kind (before ++ c ∷ [])
-AppliesOrRefuses kind before c new (Err (stops.Refused broken)) = rule_in kind before c ≡ Some broken
+abbrev pub AppliesOrRefuses : Kind → List DrillCommand → DrillCommand → DrillState → Result (Unit {0}) ItemFail → Type 0
+AppliesOrRefuses kind before c new (Ok _) = (rule_in kind.profile kind.plating before c ≡ None) × IsStateAfter new kind (before ++ c ∷ [])
+AppliesOrRefuses kind before c new (Err (stops.Refused broken)) = rule_in kind.profile kind.plating before c ≡ Some broken
 AppliesOrRefuses kind before c new (Err stops.Memory) = Unit {0}
 
 -- so it is after whatever commands the old state is that
 abbrev pub JudgesNext : DrillState → DrillCommand → DrillState → Result (Unit {0}) ItemFail → Type 0
-JudgesNext old c new result = (kind : PlatingKind) (before : List DrillCommand) → IsStateAfter old kind before → AppliesOrRefuses kind before c new result
+JudgesNext old c new result = (kind : Kind) (before : List DrillCommand) → IsStateAfter old kind before → AppliesOrRefuses kind before c new result

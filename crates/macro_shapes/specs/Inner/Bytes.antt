@@ -1,9 +1,9 @@
 -- Comments, definitions of variables and the parts of an optional text, byte by byte.
-use Rattle.std.specs.Prelude.{ℕ, suc, length, Bool, false, not, ◌&&◌, ◌||◌, ◌==◌, nat_le, List, [], ◌∷◌, drop, if◌then◌else◌, Option, None, Some, option_map, take_while}
+use Rattle.std.specs.Prelude.{ℕ, Bool, false, not, ◌&&◌, ◌||◌, ◌==◌, nat_le, List, [], ◌∷◌, drop, if◌then◌else◌, Option, None, Some, option_map, take_while}
 use Rattle.std.specs.List.{prefix_len}
 use Rattle.grid_units.specs.Ascii as ascii
 use Rattle.grid_units.specs.Numbers.{is_digit, is_digits, is_number_char, value}
-use Rattle.macro_shapes.specs.Pieces.{max_variables, split_by}
+use Rattle.macro_shapes.specs.Pieces.{max_variables}
 
 -- a byte of a field: of a number, or the comma after it
 abbrev pub is_field_byte : ℕ → Bool
@@ -32,13 +32,3 @@ number_and_text digits (b ∷ bs) = if b == 61 then option_map (λ n. (n, bs)) (
 abbrev pub starts_definition : List ℕ → Option (ℕ × List ℕ)
 starts_definition [] = None
 starts_definition (b ∷ bs) = if b == ascii.dollar then number_and_text (take_while is_digit bs) (drop (prefix_len is_digit bs) bs) else None
-
--- the parts of an optional text, none where there is no text
-abbrev pub split_by_if : ℕ → Option (List ℕ) → List (List ℕ)
-split_by_if at None = []
-split_by_if at (Some text) = split_by at text
-
--- a measure of an optional text that is left: 0 for none, else one more than its bytes
-abbrev pub left_of : Option (List ℕ) → ℕ
-left_of None = 0
-left_of (Some text) = suc (length text)

@@ -6,10 +6,11 @@ use Rattle.grid_units.specs.Ascii as ascii
 use Rattle.grid_units.specs.Numbers.{parse_decimal}
 use Rattle.macro_shapes.specs.Values.{Environment, with_value}
 use Rattle.macro_shapes.specs.Inner.Reading.{start, final_value, final_product, run}
-use Rattle.macro_shapes.specs.Pieces.{split_by, code_of, is_diameter, max_variables}
+use Rattle.macro_shapes.specs.Pieces.{code_of, is_diameter, max_variables}
 use Rattle.macro_shapes.specs.Inner.Bytes.{starts_comment, starts_definition}
 use Rattle.macro_shapes.specs.declared.fields.Fields.{Fields}
 use Rattle.macro_shapes.specs.declared.piece.Code.{Code}
+use Rattle.grid_units.specs.Rows.{split_by}
 
 -- the value of an expression
 unfoldable pub value_of : Environment → List ℕ → Option ℤ

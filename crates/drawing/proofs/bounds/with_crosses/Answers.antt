@@ -1,7 +1,4 @@
-use Rattle.std.proofs.Common.{◌∙◌, ℕ, List, [], ap₂, get_or}
-use Rattle.std.specs.List.{flat_map, fold}
-use Rattle.pad_shapes.specs.declared.row.FeatureRow.{FeatureRow}
-use Rattle.drawing.specs.Boxes.{cross_extent, joined_to}
+use Rattle.drawing.proofs.Common.{◌∙◌, ℕ, List, [], ap₂, get_or, flat_map, fold, FeatureRow, cross_extent, joined_to}
 use Rattle.drawing.proofs.ExtentLemmas.{layers_more}
 use Rattle.drawing.proofs.bounds.with_crosses.Goals as goal
 

@@ -1,6 +1,4 @@
-use Rattle.std.proofs.Common.{◌≡◌, ℕ, [], get_or, take}
-use Rattle.std.specs.List.{flat_map, fold}
-use Rattle.drawing.specs.Boxes.{cross_extent, joined_to}
+use Rattle.drawing.proofs.Common.{◌≡◌, ℕ, [], get_or, take, flat_map, fold, cross_extent, joined_to}
 use Rattle.drawing.proofs.bounds.with_crosses.Given as goal
 
 abbrev pub invariant-loop-file : goal.invariant-loop-file

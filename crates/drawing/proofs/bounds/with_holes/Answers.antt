@@ -1,6 +1,5 @@
-use Rattle.std.proofs.Common.{◌∙◌, ap, ap₂}
+use Rattle.drawing.proofs.Common.{◌∙◌, ap, ap₂, hole_extent, joined_to}
 use Rattle.ring_rules.specs.declared.finding.Drilled.{Drilled}
-use Rattle.drawing.specs.Boxes.{hole_extent, joined_to}
 use Rattle.drawing.proofs.ExtentLemmas.{extent_more}
 use Rattle.drawing.proofs.bounds.with_holes.Goals as goal
 

@@ -1,6 +1,4 @@
-use Rattle.std.proofs.Common.{◌≡◌, map, take}
-use Rattle.std.specs.List.{fold}
-use Rattle.drawing.specs.Boxes.{hole_extent, joined_to}
+use Rattle.drawing.proofs.Common.{◌≡◌, map, take, fold, hole_extent, joined_to}
 use Rattle.drawing.proofs.bounds.with_holes.Given as goal
 
 abbrev pub invariant-loop-drilled : goal.invariant-loop-drilled

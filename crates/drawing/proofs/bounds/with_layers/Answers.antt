@@ -1,8 +1,5 @@
-use Rattle.std.proofs.Common.{◌≡◌, ◌<◌, ◌∙◌, List, ap, ap₂, sym, map, length, get_or, ℕ, subst}
-use Rattle.std.specs.List.{fold}
-use Rattle.std.proofs.lemmas.List.{get_or-map, length-map}
+use Rattle.drawing.proofs.Common.{◌≡◌, ◌<◌, ◌∙◌, List, ap, ap₂, sym, map, length, get_or, ℕ, subst, fold, get_or-map, length-map, joined_to, pad_extent}
 use Rattle.pad_shapes.specs.declared.wide_pad.WidePad.{WidePad}
-use Rattle.drawing.specs.Boxes.{joined_to, pad_extent}
 use Rattle.drawing.proofs.ExtentLemmas.{layers_more}
 use Rattle.drawing.proofs.bounds.with_layers.Goals as goal
 

@@ -1,6 +1,4 @@
-use Rattle.std.proofs.Common.{◌≡◌, map, take}
-use Rattle.std.specs.List.{flat_map, fold}
-use Rattle.drawing.specs.Boxes.{joined_to, pad_extent}
+use Rattle.drawing.proofs.Common.{◌≡◌, map, take, flat_map, fold, joined_to, pad_extent}
 use Rattle.drawing.proofs.bounds.with_layers.Given as goal
 
 abbrev pub invariant-loop-layer : goal.invariant-loop-layer

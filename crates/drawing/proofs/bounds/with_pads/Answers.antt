@@ -1,5 +1,4 @@
-use Rattle.std.proofs.Common.{◌∙◌, ap, ap₂}
-use Rattle.drawing.specs.Boxes.{joined_to, pad_extent}
+use Rattle.drawing.proofs.Common.{◌∙◌, ap, ap₂, joined_to, pad_extent}
 use Rattle.drawing.proofs.ExtentLemmas.{extent_more}
 use Rattle.drawing.proofs.bounds.with_pads.Goals as goal
 

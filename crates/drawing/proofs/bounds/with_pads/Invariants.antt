@@ -1,6 +1,4 @@
-use Rattle.std.proofs.Common.{◌≡◌, map, take}
-use Rattle.std.specs.List.{fold}
-use Rattle.drawing.specs.Boxes.{joined_to, pad_extent}
+use Rattle.drawing.proofs.Common.{◌≡◌, map, take, fold, joined_to, pad_extent}
 use Rattle.drawing.proofs.bounds.with_pads.Given as goal
 
 abbrev pub invariant-loop-pad : goal.invariant-loop-pad

@@ -1,7 +1,4 @@
-use Rattle.std.proofs.Common.{◌∙◌, ap₂}
-use Rattle.std.specs.List.{fold}
-use Rattle.pad_shapes.specs.declared.row.FeatureRow.{FeatureRow}
-use Rattle.drawing.specs.Boxes.{cross_extent, joined_to}
+use Rattle.drawing.proofs.Common.{◌∙◌, ap₂, fold, FeatureRow, cross_extent, joined_to}
 use Rattle.drawing.proofs.ExtentLemmas.{layers_more}
 use Rattle.drawing.proofs.bounds.with_rows.Goals as goal
 

@@ -1,6 +1,4 @@
-use Rattle.std.proofs.Common.{◌≡◌, take}
-use Rattle.std.specs.List.{flat_map, fold}
-use Rattle.drawing.specs.Boxes.{cross_extent, joined_to}
+use Rattle.drawing.proofs.Common.{◌≡◌, take, flat_map, fold, cross_extent, joined_to}
 use Rattle.drawing.proofs.bounds.with_rows.Given as goal
 
 abbrev pub invariant-loop-row : goal.invariant-loop-row

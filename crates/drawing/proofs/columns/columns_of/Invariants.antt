@@ -1,4 +1,4 @@
-use Rattle.drawing.specs.Layouts.{IsFirstLeast, square_error}
+use Rattle.drawing.proofs.Common.{IsFirstLeast, square_error}
 use Rattle.drawing.proofs.columns.columns_of.Given as goal
 
 abbrev pub invariant-loop-before : goal.invariant-loop-before

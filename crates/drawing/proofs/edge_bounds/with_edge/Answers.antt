@@ -1,7 +1,4 @@
-use Rattle.std.proofs.Common.{◌∙◌, ap₂}
-use Rattle.std.specs.List.{fold}
-use Rattle.pad_shapes.specs.declared.drawn.Drawn.{Drawn}
-use Rattle.drawing.specs.Boxes.{edge_extents, joined_to}
+use Rattle.drawing.proofs.Common.{◌∙◌, ap₂, fold, Drawn, edge_extents, joined_to}
 use Rattle.drawing.proofs.ExtentLemmas.{layers_more}
 use Rattle.drawing.proofs.edge_bounds.with_edge.Goals as goal
 

@@ -1,6 +1,4 @@
-use Rattle.std.proofs.Common.{◌≡◌, take}
-use Rattle.std.specs.List.{flat_map, fold}
-use Rattle.drawing.specs.Boxes.{edge_extents, joined_to}
+use Rattle.drawing.proofs.Common.{◌≡◌, take, flat_map, fold, edge_extents, joined_to}
 use Rattle.drawing.proofs.edge_bounds.with_edge.Given as goal
 
 abbrev pub invariant-loop-part : goal.invariant-loop-part

@@ -1,6 +1,4 @@
-use Rattle.std.proofs.Common.{ℕ, List, ◌+◌, ◌*◌, ◌++◌, codes, refl, ap₂}
-use Rattle.std.proofs.Output.{has_written_append, has_written_of_eq}
-use Rattle.drawing.specs.Pages.{text_start}
+use Rattle.drawing.proofs.Common.{ℕ, List, ◌+◌, ◌*◌, ◌++◌, codes, refl, ap₂, has_written_append, has_written_of_eq, text_start}
 use Rattle.drawing.proofs.page.write_legend.Goals as goal
 
 pub returns : goal.returns

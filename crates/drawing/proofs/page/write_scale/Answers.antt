@@ -1,6 +1,4 @@
-use Rattle.std.proofs.Common.{ℕ, ◌+◌, ◌*◌, ◌/◌, ◌++◌, codes, refl, ap}
-use Rattle.std.proofs.Output.{has_written_append, has_written_of_eq}
-use Rattle.drawing.specs.Pages.{bar_at, length_words, text_start}
+use Rattle.drawing.proofs.Common.{ℕ, ◌+◌, ◌*◌, ◌/◌, ◌++◌, codes, refl, ap, has_written_append, has_written_of_eq, bar_at, length_words, text_start}
 use Rattle.drawing.proofs.page.write_scale.Goals as goal
 
 pub returns : goal.returns

@@ -1,4 +1,4 @@
-use Rattle.std.proofs.Common.{arith}
+use Rattle.drawing.proofs.Common.{arith}
 use Rattle.drawing.proofs.BarLemmas.{bar_of_five, bar_of_one, bar_of_two}
 use Rattle.drawing.proofs.page_layout.bar_of.Goals as goal
 

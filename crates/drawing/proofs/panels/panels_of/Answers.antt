@@ -1,7 +1,4 @@
-use Rattle.std.proofs.Common.{◌≡◌, List, ℕ, subst, map}
-use Rattle.std.specs.List.{AllZip, enumerate_from}
-use Rattle.ring_rules.proofs.EnumeratedLists.{enumerated_all}
-use Rattle.drawing.specs.Pages.{IsPanel}
+use Rattle.drawing.proofs.Common.{◌≡◌, List, ℕ, subst, map, AllZip, enumerate_from, enumerated_all, IsPanel}
 use Rattle.drawing.proofs.PanelLists.{zip_placed}
 use Rattle.drawing.proofs.panels.panels_of.Goals as goal
 

@@ -1,6 +1,4 @@
-use Rattle.std.proofs.Common.{map, take}
-use Rattle.std.specs.List.{AllZip, enumerate_from}
-use Rattle.drawing.specs.Pages.{IsPanel}
+use Rattle.drawing.proofs.Common.{map, take, AllZip, enumerate_from, IsPanel}
 use Rattle.drawing.proofs.panels.panels_of.Given as goal
 
 abbrev pub invariant-loop-layer : goal.invariant-loop-layer

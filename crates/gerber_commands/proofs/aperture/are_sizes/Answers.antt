@@ -1,4 +1,4 @@
-use Rattle.std.proofs.Common.{sym, ap, ◌∙◌, ◌&&◌}
+use Rattle.gerber_commands.proofs.Common.{sym, ap, ◌∙◌, ◌&&◌}
 use Rattle.gerber_commands.proofs.SplitLemmas.{sizes_are, sizes_are_not}
 use Rattle.gerber_commands.proofs.aperture.are_sizes.Goals as goal
 

@@ -1,7 +1,4 @@
-use Rattle.std.proofs.Common.{◌≡◌, ◌++◌}
-use Rattle.std.specs.Option.{option_copied}
-use Rattle.gerber_commands.specs.Pieces.{split_by_if}
-use Rattle.gerber_commands.proofs.SplitLemmas.{left_of}
+use Rattle.gerber_commands.proofs.Common.{◌≡◌, ◌++◌, option_copied, split_by_if, left_of}
 use Rattle.gerber_commands.proofs.aperture.copy_pieces.Given as goal
 
 abbrev pub invariant-loop-left : goal.invariant-loop-left

@@ -1,8 +1,5 @@
-use Rattle.std.proofs.Common.{◌+◌, ◌≤◌, List, ℕ, map, length, sym, ap, subst, ◌∙◌}
-use Rattle.std.specs.Prelude.{IfOk}
-use Rattle.std.specs.Option.{option_copied}
+use Rattle.gerber_commands.proofs.Common.{◌+◌, ◌≤◌, List, ℕ, map, length, sym, ap, subst, ◌∙◌, IfOk, option_copied, all_values, split_by_if}
 use Rattle.grid_units.specs.Numbers.{parse_decimal}
-use Rattle.gerber_commands.specs.Pieces.{split_by_if, all_values}
 use Rattle.gerber_commands.proofs.Parameters.{joined, one_more, room_left}
 use Rattle.gerber_commands.proofs.aperture.read_sizes.Goals as goal
 

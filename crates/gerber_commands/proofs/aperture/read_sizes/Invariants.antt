@@ -1,9 +1,5 @@
-use Rattle.std.proofs.Common.{◌≡◌, ◌+◌, ◌≤◌, length, map}
-use Rattle.std.specs.Prelude.{IfOk}
-use Rattle.std.specs.Option.{option_copied}
+use Rattle.gerber_commands.proofs.Common.{◌≡◌, ◌+◌, ◌≤◌, length, map, IfOk, option_copied, all_values, split_by, split_by_if, left_of}
 use Rattle.grid_units.specs.Numbers.{parse_decimal}
-use Rattle.gerber_commands.specs.Pieces.{split_by, split_by_if, all_values}
-use Rattle.gerber_commands.proofs.SplitLemmas.{left_of}
 use Rattle.gerber_commands.proofs.Parameters.{joined}
 use Rattle.gerber_commands.proofs.aperture.read_sizes.Given as goal
 

@@ -1,5 +1,5 @@
-use Rattle.std.proofs.Common.{◌∷◌, ℤ, refl}
-use Rattle.grid_units.specs.Spellings.{canonical}
+use Rattle.gerber_commands.proofs.Common.{◌∷◌, refl, canonical}
+use Rattle.std.proofs.Common.{ℤ}
 use Rattle.gerber_commands.proofs.CanonicalLemmas.{written_step, written_all}
 use Rattle.gerber_commands.proofs.canonical.put_further_sizes.Goals as goal
 

@@ -1,6 +1,4 @@
-use Rattle.std.proofs.Common.{◌≡◌, ◌∷◌, ◌++◌, take}
-use Rattle.std.specs.List.{flat_map}
-use Rattle.grid_units.specs.Spellings.{canonical}
+use Rattle.gerber_commands.proofs.Common.{◌≡◌, ◌∷◌, ◌++◌, take, flat_map, canonical}
 use Rattle.gerber_commands.proofs.canonical.put_further_sizes.Given as goal
 
 abbrev pub invariant-loop-size : goal.invariant-loop-size

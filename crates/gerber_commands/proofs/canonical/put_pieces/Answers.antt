@@ -1,5 +1,4 @@
-use Rattle.std.proofs.Common.{◌∷◌, ◌++◌, ℕ, List, ap}
-use Rattle.std.specs.Prelude.{codes}
+use Rattle.gerber_commands.proofs.Common.{◌∷◌, ◌++◌, ℕ, List, ap, codes}
 use Rattle.gerber_commands.proofs.CanonicalLemmas.{written_step, written_all}
 use Rattle.gerber_commands.proofs.canonical.put_pieces.Goals as goal
 

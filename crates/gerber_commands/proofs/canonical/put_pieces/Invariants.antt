@@ -1,5 +1,4 @@
-use Rattle.std.proofs.Common.{◌≡◌, ◌++◌, take}
-use Rattle.gerber_commands.specs.Canonical.{pieces_text}
+use Rattle.gerber_commands.proofs.Common.{◌≡◌, ◌++◌, take, pieces_text}
 use Rattle.gerber_commands.proofs.canonical.put_pieces.Given as goal
 
 abbrev pub invariant-loop-piece : goal.invariant-loop-piece

@@ -1,5 +1,4 @@
-use Rattle.std.proofs.Common.{◌≡◌, take, ◌==◌}
-use Rattle.std.specs.List.{list_any}
+use Rattle.gerber_commands.proofs.Common.{◌≡◌, take, ◌==◌, list_any}
 use Rattle.gerber_commands.proofs.negative.contains.Given as goal
 
 abbrev pub invariant-loop-byte : goal.invariant-loop-byte

@@ -1,5 +1,4 @@
-use Rattle.std.proofs.Common.{◌<◌, ◌^◌, ℕ, subst, arith}
-use Rattle.std.proofs.lemmas.List.{length-take-le}
+use Rattle.gerber_commands.proofs.Common.{◌<◌, ◌^◌, ℕ, subst, arith, length-take-le}
 use Rattle.gerber_commands.proofs.number.eight_digits.Goals as goal
 
 pub returns-clause-bound : goal.returns-clause-bound

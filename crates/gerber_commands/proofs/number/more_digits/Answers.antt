@@ -1,7 +1,4 @@
-use Rattle.std.proofs.Common.{◌≡◌, ◌+◌, ◌*◌, ◌≤◌, ◌<◌, ◌^◌, length, get_or, true, refl, sym, ap, ◌∙◌, arith, rules}
-use Rattle.std.proofs.Math.Nat.{pow-le-pow_right}
-use Rattle.std.proofs.lemmas.List.Elements.{All-more}
-use Rattle.grid_units.specs.Numbers.{is_digit}
+use Rattle.gerber_commands.proofs.Common.{◌≡◌, ◌+◌, ◌*◌, ◌≤◌, ◌<◌, ◌^◌, length, get_or, true, refl, sym, ap, ◌∙◌, arith, rules, pow-le-pow_right, All-more, is_digit}
 use Rattle.gerber_commands.proofs.NumberLemmas.{value_more, bound_more}
 use Rattle.grid_units.proofs.DigitLemmas.{digit_small}
 use Rattle.gerber_commands.proofs.number.more_digits.Goals as goal

@@ -1,5 +1,5 @@
-use Rattle.std.proofs.Common.{◌≡◌, ◌≤◌, ◌<◌, ◌^◌, take, All, true}
-use Rattle.grid_units.specs.Numbers.{is_digit, value}
+use Rattle.gerber_commands.proofs.Common.{◌≡◌, ◌≤◌, ◌<◌, ◌^◌, take, true, is_digit, value}
+use Rattle.std.proofs.Common.{All}
 use Rattle.gerber_commands.proofs.number.more_digits.Given as goal
 
 abbrev pub invariant-loop-i : goal.invariant-loop-i

@@ -1,9 +1,7 @@
-use Rattle.std.proofs.Common.{◌≡◌, true, cond, Ok, take, ap, sym, ◌∙◌, w64, rules}
-use Rattle.std.specs.Prelude.{ℤ, pos, neg_ℤ}
+use Rattle.gerber_commands.proofs.Common.{◌≡◌, true, cond, Ok, take, ap, sym, ◌∙◌, w64, rules, neg_ℤ, recursion_from_All, is_digit}
+use Rattle.std.specs.Prelude.{ℤ, pos}
 use Rattle.std.proofs.lemmas.Int.{to_z-of_z}
-use Rattle.std.proofs.lemmas.List.Elements.{recursion_from_All}
 use mir.Val.{to_z, of_z}
-use Rattle.grid_units.specs.Numbers.{is_digit}
 use Rattle.gerber_commands.proofs.NumberLemmas.{read_ok, all_digits}
 use Rattle.gerber_commands.proofs.number.read_int.Goals as goal
 

@@ -1,5 +1,4 @@
-use Rattle.std.proofs.Common.{◌≤◌, ◌^◌, arith}
-use Rattle.std.proofs.Math.Nat.{pow-le-pow_right}
+use Rattle.gerber_commands.proofs.Common.{◌≤◌, ◌^◌, arith, pow-le-pow_right}
 use Rattle.gerber_commands.proofs.number.value_of.Goals as goal
 
 pub overflow_mul-n : goal.overflow_mul-n

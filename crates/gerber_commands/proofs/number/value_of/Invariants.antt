@@ -1,5 +1,4 @@
-use Rattle.std.proofs.Common.{◌≡◌, ◌<◌, ◌^◌, take}
-use Rattle.grid_units.specs.Numbers.{value}
+use Rattle.gerber_commands.proofs.Common.{◌≡◌, ◌<◌, ◌^◌, take, value}
 use Rattle.gerber_commands.proofs.number.value_of.Given as goal
 
 abbrev pub invariant-loop-byte : goal.invariant-loop-byte

@@ -1,4 +1,4 @@
-use Rattle.std.proofs.Common.{refl}
+use Rattle.gerber_commands.proofs.Common.{refl}
 use Rattle.gerber_commands.specs.Pieces.{block_fields}
 use Rattle.gerber_commands.proofs.piece.block_fields.Goals as goal
 

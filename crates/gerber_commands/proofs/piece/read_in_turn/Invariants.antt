@@ -1,9 +1,5 @@
-use Rattle.std.proofs.Common.{◌≡◌, ◌++◌, Ok, map}
-use Rattle.std.specs.Option.{option_copied}
-use Rattle.grid_units.specs.Results.{◌>>=◌}
-use Rattle.gerber_commands.specs.Pieces.{split_by, split_by_if}
-use Rattle.gerber_commands.specs.Profiles.{piece_among, spelled_in_turn}
-use Rattle.gerber_commands.proofs.SplitLemmas.{left_of}
+use Rattle.gerber_commands.proofs.Common.{◌≡◌, ◌++◌, Ok, map, option_copied, ◌>>=◌, spelled_in_turn, split_by, split_by_if, left_of}
+use Rattle.gerber_commands.specs.Profiles.{piece_among}
 use Rattle.gerber_commands.proofs.piece.read_in_turn.Given as goal
 
 abbrev pub invariant-loop-left : goal.invariant-loop-left

@@ -1,4 +1,4 @@
-use Rattle.std.proofs.Common.{refl}
+use Rattle.gerber_commands.proofs.Common.{refl}
 use Rattle.gerber_commands.specs.Words.{operands}
 use Rattle.gerber_commands.proofs.word.read_operands.Goals as goal
 

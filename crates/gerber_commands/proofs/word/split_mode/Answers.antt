@@ -1,4 +1,4 @@
-use Rattle.std.proofs.Common.{rules}
+use Rattle.gerber_commands.proofs.Common.{rules}
 use Rattle.gerber_commands.specs.Words.{split_mode}
 use Rattle.gerber_commands.proofs.word.split_mode.Goals as goal
 

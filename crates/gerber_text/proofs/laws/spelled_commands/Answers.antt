@@ -7,7 +7,7 @@ pub returns-clause-said : goal.returns-clause-said
 returns-clause-said c = said
 
 pub returns-clause-ends : goal.returns-clause-ends
-returns-clause-ends c plotting item commands cut e = item_ends Strict plotting item commands (item_written Strict plotting item commands cut.one e)
+returns-clause-ends c latest item commands cut e = item_ends Strict latest item commands (item_written Strict latest item commands cut.one e)
 
 pub returns-clause-exact : goal.returns-clause-exact
 returns-clause-exact c command = (is_spelled command, was_spelled command)

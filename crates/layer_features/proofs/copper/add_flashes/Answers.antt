@@ -17,11 +17,10 @@ loop-flash-preserved c = record {
       let next : take (i + 1) flashes ≡ take i flashes ++ flash ∷ [] = take_more flashes i flash (omega arith) ∙ ap (λ (f : Flash). take i flashes ++ f ∷ []) (sym c.flash-item.is) in
       let more : map (flash_feature s) (take (i + 1) flashes) ≡ map (flash_feature s) (take i flashes) ++ flash_feature s flash ∷ [] =
       ap (map (flash_feature s)) next ∙ map-append (flash_feature s) (take i flashes) (flash ∷ []) in
-      subst (KeepsFeatures c.add.new.self taken)
+      subst (KeepsFeatures c.add_flash.new.kept taken)
       (append_assoc features (map (flash_feature s) (take i flashes)) (flash_feature s flash ∷ []) ∙ ap (λ (l : List Feature). features ++ l) (sym more))
-      (subst (λ (f : Feature). KeepsFeatures c.add.new.self taken ((features ++ map (flash_feature s) (take i flashes)) ++ f ∷ [])) (c.in_ok-flash_feature.ensures s clear shape why)
-      (c.in_ok-add.ensures.kept taken (features ++ map (flash_feature s) (take i flashes)) (c.loop-flash.invariant.kept s taken features clear shape why h)));
-  rows = c.add.ensures.rows ∙ c.loop-flash.invariant.rows;
+      (c.in_ok-add_flash.ensures.kept s clear shape why taken (features ++ map (flash_feature s) (take i flashes)) (c.loop-flash.invariant.kept s taken features clear shape why h));
+  rows = c.add_flash.ensures.rows ∙ c.loop-flash.invariant.rows;
 }
 
 pub returns-clause-kept : goal.returns-clause-kept

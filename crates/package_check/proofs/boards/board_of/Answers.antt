@@ -1,8 +1,4 @@
-use Rattle.package_check.proofs.Common.{◌≡◌, List, Option, ap, length, map, rules, sym, ◌∙◌, flat_map, sum_by, Kept, contents_in, drilled_in, hole_count, layer_indexes, layer_indexes_in, pads_of, shown_in, sum_of}
-use Rattle.std.proofs.lemmas.Iterator.Adapters.{YieldsList-from_vec}
-use Rattle.std.proofs.lemmas.Iterator.Consumers.{YieldsList-end}
-use Rattle.std.proofs.lemmas.List.{map-id}
-use Rattle.std.specs.Vec.Iter.{into_iter_len}
+use Rattle.package_check.proofs.Common.{◌≡◌, List, Option, ap, length, map, rules, sym, ◌∙◌, flat_map, sum_by, Kept, contents_in, drilled_in, hole_count, layer_indexes, layer_indexes_in, pads_of, shown_in, sum_of, YieldsList-from_vec, YieldsList-end, map-id, into_iter_len}
 use Rattle.package_check.proofs.BoardsLemmas.{all_counted}
 use Rattle.package_check.proofs.DrillSlots.{slot_holes}
 use Rattle.package_check.proofs.JudgedLayers.{indexes_from}

@@ -1,17 +1,7 @@
-use Rattle.std.proofs.Common.{◌≡◌, ◌+◌, ◌-◌, ◌∷◌, [], ℕ, true, false, List, inl, inr, length, refl, ap, sym, ◌∙◌, arith}
+use Rattle.package_check.proofs.Common.{◌≡◌, ◌+◌, ◌-◌, ◌∷◌, [], ℕ, false, List, inl, inr, length, refl, ap, sym, ◌∙◌, arith, length-append, IsGapEntry, conflict_in, is_gap, board_findings, wide_pad_covers, FileSum, Finding, enumerate_from, filter, filter_map, list_any, RoleConflict, AllZip-long, gap_findings, ring_findings, is_called_plated, wide_rings}
+use Rattle.std.proofs.Common.{true}
 use Rattle.std.specs.Prelude.{not}
-use Rattle.std.proofs.lemmas.List.{length-append}
-use Rattle.board_report.specs.BoardReport.{IsGapEntry, conflict_in, is_gap}
-use Rattle.board.specs.Boards.{board_findings}
-use Rattle.pad_shapes.specs.WidePads.{wide_pad_covers}
-use Rattle.board.specs.declared.FileSum.{FileSum}
-use Rattle.ring_rules.specs.declared.finding.Finding.{Finding}
-use Rattle.std.specs.List.{enumerate_from, filter, filter_map, list_any}
 use Rattle.board.specs.declared.FileSum.TheVariants as sum
-use Rattle.report.specs.declared.RoleConflict.{RoleConflict}
-use Rattle.std.proofs.lemmas.Slice.Zip.{AllZip-long}
-use Rattle.ring_rules.specs.Findings.{gap_findings, ring_findings}
-use Rattle.package_check.specs.WiderProfile.{is_called_plated, wide_rings}
 use Rattle.package_check.proofs.WiderFindings.{gaps_among, gaps_are, rings_are}
 use Rattle.package_check.proofs.fewer.fewer_in_wide.Goals as goal
 

@@ -1,13 +1,4 @@
-use Rattle.std.proofs.Common.{◌≡◌, List, [], map, ◌++◌, ap, sym, ◌∙◌}
-use Rattle.pad_shapes.specs.declared.wide_pad.WidePad.{WidePad}
-use Rattle.pad_shapes.specs.WidePads.{wide_pad_covers}
-use Rattle.ring_rules.specs.declared.finding.Finding.{Finding}
-use Rattle.std.proofs.lemmas.List.{map-append}
-use Rattle.std.proofs.lemmas.Result.{on_ok_weaker}
-use Rattle.ring_rules.specs.Findings.{layer_findings}
-use Rattle.ring_rules.specs.Search.{Covering}
-use Rattle.ring_rules.proofs.TriedPads.{layer_by_coverings}
-use Rattle.package_check.specs.WiderProfile.{layer_rings}
+use Rattle.package_check.proofs.Common.{◌≡◌, List, [], map, ◌++◌, ap, sym, ◌∙◌, WidePad, wide_pad_covers, Finding, map-append, on_ok_weaker, layer_findings, Covering, layer_by_coverings, layer_rings}
 use Rattle.package_check.proofs.fewer.push_layer.Goals as goal
 
 -- three lists of pads, each given by what it covers, are one list

@@ -1,8 +1,7 @@
-use Rattle.std.proofs.Common.{rules, tests}
+use Rattle.package_check.proofs.Common.{rules, tests, RoleConflict}
 use Rattle.std.specs.Prelude.{not}
 use Rattle.std.proofs.lemmas.Iterator.{YieldsList-from_slice}
 use Rattle.std.proofs.lemmas.Iterator.Search.{any_from_yields_List}
-use Rattle.report.specs.declared.RoleConflict.{RoleConflict}
 use Rattle.package_check.proofs.fewer.some_are_called_plated.Goals as goal
 
 pub returns : goal.returns

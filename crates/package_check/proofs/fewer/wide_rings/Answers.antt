@@ -1,8 +1,4 @@
-use Rattle.std.proofs.Common.{◌≡◌, ◌+◌, ◌∙◌, ◌++◌, ℕ, List, ap, get_or, subst, sym, take}
-use Rattle.grid_units.specs.Holes.{GridRules}
-use Rattle.std.specs.List.{enumerate_from, flat_map}
-use Rattle.ring_rules.proofs.EnumeratedLists.{enumerated_all, flat_listed_more}
-use Rattle.package_check.specs.WiderProfile.{in_wide, layer_rings}
+use Rattle.package_check.proofs.Common.{◌≡◌, ◌+◌, ◌∙◌, ◌++◌, ℕ, List, ap, get_or, subst, sym, take, GridRules, enumerate_from, flat_map, enumerated_all, flat_listed_more, in_wide, layer_rings}
 use Rattle.package_check.proofs.fewer.wide_rings.Goals as goal
 
 pub loop-layer-preserved : goal.loop-layer-preserved

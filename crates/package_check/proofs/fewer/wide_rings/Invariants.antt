@@ -1,6 +1,4 @@
-use Rattle.std.proofs.Common.{◌≡◌, take}
-use Rattle.std.specs.List.{enumerate_from, flat_map}
-use Rattle.package_check.specs.WiderProfile.{in_wide, layer_rings}
+use Rattle.package_check.proofs.Common.{◌≡◌, take, enumerate_from, flat_map, in_wide, layer_rings}
 use Rattle.package_check.proofs.fewer.wide_rings.Given as goal
 
 -- the rings so far are those of the layers so far

@@ -1,5 +1,4 @@
-use Rattle.package_check.proofs.Common.{◌≡◌, ◌∙◌, ℕ, List, Bor, Option, None, Some, ap, get_or, length, ltb-true, none-some, refl, same_Some, slice_get, slice_get_read, subst, sym, has_written_append, has_written_of_eq, place_words}
-use Rattle.std.specs.Option.{option_copied}
+use Rattle.package_check.proofs.Common.{◌≡◌, ◌∙◌, ℕ, List, Bor, Option, None, Some, ap, get_or, length, ltb-true, none-some, refl, same_Some, slice_get, slice_get_read, subst, sym, has_written_append, has_written_of_eq, place_words, option_copied}
 use Rattle.std.specs.Slice.{IsItemAt}
 use Rattle.package_check.specs.Texts.{hole_line, line_if_found}
 use Rattle.package_check.proofs.lines.write_hole.Goals as goal

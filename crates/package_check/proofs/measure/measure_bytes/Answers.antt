@@ -1,4 +1,4 @@
-use Rattle.package_check.specs.Package.{file_views_in}
+use Rattle.package_check.proofs.Common.{file_views_in}
 use Rattle.package_check.proofs.MeasuredLemmas.{measured, refused_alike}
 use Rattle.package_check.proofs.measure.measure_bytes.Goals as goal
 

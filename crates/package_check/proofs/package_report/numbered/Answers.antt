@@ -1,5 +1,4 @@
-use Rattle.package_check.proofs.Common.{ℕ, rules, arith}
-use Rattle.std.proofs.lemmas.List.Sorted.{IsPartitionPoint-from_clause}
+use Rattle.package_check.proofs.Common.{ℕ, rules, arith, IsPartitionPoint-from_clause}
 use lib.Dec.{leb}
 use Rattle.package_check.proofs.FileStartsLemmas.{found, parted, placed}
 use Rattle.package_check.proofs.package_report.numbered.Goals as goal

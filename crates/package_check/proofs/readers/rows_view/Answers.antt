@@ -1,6 +1,5 @@
-use Rattle.package_check.proofs.Common.{◌≡◌, ap, ◌∙◌, Profile, without_places, first_parts, uncleared_drawn, keeps_drawn, keeps_rows, FeatureCounts, Drawn, WidePad, is_copper_function}
-use Rattle.layer_features.specs.Features.{counts_of, features_of, pads_of, rows_of, uncounted_contours, uncounted_macros, view_in, wide_features_of}
-use Rattle.std.specs.Global.{Vec}
+use Rattle.package_check.proofs.Common.{◌≡◌, ap, ◌∙◌, Profile, without_places, first_parts, uncleared_drawn, keeps_drawn, keeps_rows, FeatureCounts, Drawn, WidePad, is_copper_function, counts_of, features_of, rows_of, uncounted_contours, uncounted_macros, view_in, wide_features_of, Vec}
+use Rattle.layer_features.specs.Features.{pads_of}
 use Rattle.package_check.proofs.ShownLemmas.{counted_in, kept_where}
 use Rattle.package_check.proofs.readers.rows_view.Goals as goal
 

@@ -1,6 +1,5 @@
-use Rattle.package_check.proofs.Common.{◌∙◌, [], sym, subst, keeps_rows, Keep, copper_keep, both_ways, IfOk-weaker}
+use Rattle.package_check.proofs.Common.{◌∙◌, [], sym, subst, keeps_rows, Keep, copper_keep, both_ways, IfOk-weaker, on_ok_weaker}
 use Rattle.layer_image.specs.Kept.{IsKeptOf}
-use Rattle.std.proofs.lemmas.Result.{on_ok_weaker}
 use Rattle.package_check.proofs.ShownLemmas.{drawn_too, drawn_viewed, pads_else, rows_too, rows_where_drawn, viewed}
 use Rattle.package_check.proofs.readers.view.Goals as goal
 

@@ -1,7 +1,5 @@
-use Rattle.std.proofs.Common.{List, ℕ, map, refl, subst}
+use Rattle.drawing.proofs.Common.{List, ℕ, map, refl, subst, Drawn, IsPage}
 use Rattle.std.proofs.lemmas.Result.{IfOk-weaker}
-use Rattle.pad_shapes.specs.declared.drawn.Drawn.{Drawn}
-use Rattle.drawing.specs.Pages.{IsPage}
 use Rattle.drawing.proofs.draw.Drawing.new.Goals as goal
 
 pub returns : goal.returns

@@ -1,8 +1,7 @@
-use Rattle.std.proofs.Common.{◌≡◌, ◌≤◌, ◌*◌, ◌^◌, ◌∙◌, ℤ, w64, to_z, of_z, ap₂, arith}
+use Rattle.drawing.proofs.Common.{◌≡◌, ◌≤◌, ◌*◌, ◌^◌, ◌∙◌, ℤ, w64, to_z, of_z, ap₂, arith, GridExtent, joint_extent}
 use Rattle.std.specs.Prelude.{unsigned_abs}
 use Rattle.std.specs.Int.{int_min, int_max}
 use Rattle.std.proofs.lemmas.Int.{ints}
-use Rattle.drawing.specs.Boxes.{GridExtent, joint_extent}
 use Rattle.drawing.proofs.extent.Extent.joined.Goals as goal
 
 same : (z : ℤ) → unsigned_abs z ≤ 2 * 10 ^ 13 → to_z w64 (of_z w64 z) ≡ z

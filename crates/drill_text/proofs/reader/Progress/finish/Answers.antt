@@ -11,7 +11,7 @@ pub returns-then-is_finished : goal.returns-then-is_finished
 returns-then-is_finished c p keep text h =
     let k = c.in_ok-end.ensures.results_in p keep text h in
     let reads = reads_ended c.args.self text h k.0 c.args.self.in_text k.1 (sym k.2.keeps.finished ∙ (sym c.is_finished.ensures ∙ c.if-is_finished.true)) in
-    (k.0, reads, c.new.ensures p.plating keep k.0 k.2)
+    (k.0, reads, c.new.ensures p keep k.0 k.2)
 
 pub returns : goal.returns
 returns c p keep text h =

@@ -47,9 +47,9 @@ returns-clause-ok c profile gone text h =
       items = h.items ++ (h.rest ++ (length text, last) ∷ []) ∷ [];
       rest = [];
       splits = k.splits;
-      commands = k.shows ∙ ((λ i. spelled_in (sym h.profile_is i) (old.items + 1) c.item_start-byte.result (sym item i) (gone ++ old.commands.items)) ∙ c.in_ok-self.ensures.spelled gone h.plotting);
+      commands = k.shows ∙ ((λ i. spelled_in (sym h.profile_is i) (old.items + 1) c.item_start-byte.result (sym item i) (gone ++ old.commands.items)) ∙ c.in_ok-self.ensures.spelled gone h.latest);
       profile_is = h.profile_is;
-      plotting = c.in_ok-self.ensures.plotting gone h.plotting;
+      latest = c.in_ok-self.ensures.latest gone h.latest;
       count = ap (λ n. n + 1) h.count ∙ sym k.count;
       pending = λ _. c.clear.ensures.items;
       start = λ _ lt. absurd (omega arith);
@@ -72,7 +72,7 @@ returns-in_err-self-clause-err c =
     let item : c.deref.result.now ≡ old.item.items ++ last ∷ [] = c.deref.ensures.value ∙ c.in_ok-push.ensures.items in
     let e = c.in_err-self.field-0.0 in
     let p = err_from_is_err_and c.from_residual-in_err-self.result c.from_residual-in_err-self.ensures.1 in
-    rw (p.1, p.2) (refused_or_memory old last c.item_start-byte.result c.requires.running c.requires.last (λ z. c.item_start-byte.ensures.fresh (omega (arith, len, z))) (λ lt. c.item_start-byte.ensures.begun (omega (arith, len, lt))) c.parse_item.new.commands.items c.in_err-self.ensures.err e (λ profile gone text h. subst (λ (b : List ℕ). ResultsIn {X = Unit {0}} (Err e) (gone ++ c.parse_item.new.commands.items) (spelled_in old.profile (old.items + 1) c.item_start-byte.result b (gone ++ old.commands.items))) item (c.in_err-self.ensures.spelled gone h.plotting)))
+    rw (p.1, p.2) (refused_or_memory old last c.item_start-byte.result c.requires.running c.requires.last (λ z. c.item_start-byte.ensures.fresh (omega (arith, len, z))) (λ lt. c.item_start-byte.ensures.begun (omega (arith, len, lt))) c.parse_item.new.commands.items c.in_err-self.ensures.err e (λ profile gone text h. subst (λ (b : List ℕ). ResultsIn {X = Unit {0}} (Err e) (gone ++ c.parse_item.new.commands.items) (spelled_in old.profile (old.items + 1) c.item_start-byte.result b (gone ++ old.commands.items))) item (c.in_err-self.ensures.spelled gone h.latest)))
 
 pub returns-in_err-push-clause-err : goal.returns-in_err-push-clause-err
 returns-in_err-push-clause-err c =

@@ -1,6 +1,6 @@
-use Rattle.gerber_text.proofs.Common.{◌≡◌, ◌+◌, ◌≤◌, Ok, ℕ, List, [], ◌∷◌, ◌++◌, length, take, sym, ap, ◌∙◌, arith, length-append, length-take, nil_from_length, Command, Operate, item_limit, operation_commands, Entries, is_plotting, item_entries, spelled_in}
+use Rattle.gerber_text.proofs.Common.{◌≡◌, ◌+◌, ◌≤◌, Some, Ok, ℕ, List, [], ◌∷◌, ◌++◌, length, take, refl, sym, ap, ◌∙◌, arith, length-append, length-take, nil_from_length, Command, Operate, item_limit, operation_commands, Entries, latest_action, item_entries, spelled_in}
 use Rattle.gerber_text.proofs.ReaderStepLemmas.{length-bytes_of}
-use Rattle.gerber_text.proofs.PlottingLemmas.{counted_gone, plots_on, last_operation}
+use Rattle.gerber_text.proofs.LatestLemmas.{counted_gone, latest_on, last_operation}
 use Rattle.gerber_text.proofs.Items.{takes, spelled_ok}
 use Rattle.gerber_text.proofs.reader.Progress.count_operation.Goals as goal
 
@@ -22,14 +22,14 @@ returns-clause-ok c none_held profile gone text h =
     let added = item_entries (self.items + 1) self.offset whats in
     let after = (gone ++ added) ++ self.commands.items in
     let gone_on : before ++ added ≡ after = counted_gone gone self.commands.items added none_held in
-    let said : spelled_in profile (self.items + 1) (length text) item before ≡ Ok after = spelled_ok profile (self.items + 1) (length text) item before whats short (begins.parses profile (is_plotting before)) ∙ (ap (λ b. Ok (before ++ item_entries (self.items + 1) b whats)) (sym h.offset) ∙ ap (λ (x : Entries). Ok x) gone_on) in
+    let said : spelled_in profile (self.items + 1) (length text) item before ≡ Ok after = spelled_ok profile (self.items + 1) (length text) item before whats short (begins.parses profile (latest_action before)) ∙ (ap (λ b. Ok (before ++ item_entries (self.items + 1) b whats)) (sym h.offset) ∙ ap (λ (x : Entries). Ok x) gone_on) in
     record {
       items = h.items ++ k.last ∷ [];
       rest = [];
       splits = k.splits;
       commands = k.shows ∙ said;
       profile_is = h.profile_is;
-      plotting = plots_on before after added what self.plotting _ (sym gone_on) (last_operation (self.items + 1) self.offset operation.mode what) h.plotting c.is_plot-self.ensures;
+      latest = latest_on before after added what self.latest (Some operation.action) (sym gone_on) (last_operation (self.items + 1) self.offset operation.mode what) h.latest refl;
       count = ap (λ n. n + 1) h.count ∙ sym k.count;
       pending = λ _. no_item;
       start = λ _ lt. absurd (omega arith);

@@ -1,8 +1,8 @@
 -- The command is gone, and the last operation is that before it.
-use Rattle.gerber_text.proofs.Common.{◌≡◌, ◌+◌, ◌≤◌, Ok, ℕ, List, [], ◌∷◌, ◌++◌, length, take, drop, unwrap_or, refl, sym, ap, ◌∙◌, arith, length-append, length-take, nil_from_length, Command, item_limit, text_command, Entries, is_plotting, item_entries, spelled_in}
-use Rattle.gerber_text.proofs.LeadingTextLemmas.{plots_no, text_item}
+use Rattle.gerber_text.proofs.Common.{◌≡◌, ◌+◌, ◌≤◌, Ok, ℕ, List, [], ◌∷◌, ◌++◌, length, take, drop, option_or, refl, sym, ap, ◌∙◌, arith, length-append, length-take, nil_from_length, Command, item_limit, text_command, Entries, latest_action, item_entries, spelled_in}
+use Rattle.gerber_text.proofs.LeadingTextLemmas.{no_action, text_item}
 use Rattle.gerber_text.proofs.ReaderStepLemmas.{length-bytes_of}
-use Rattle.gerber_text.proofs.PlottingLemmas.{counted_gone, plots_on}
+use Rattle.gerber_text.proofs.LatestLemmas.{counted_gone, latest_on}
 use Rattle.gerber_text.proofs.Items.{takes, spelled_ok}
 use Rattle.gerber_text.proofs.reader.Progress.count_text.Goals as goal
 
@@ -25,14 +25,14 @@ returns-clause-ok c none_held profile gone text h =
     let added = item_entries (self.items + 1) self.offset whats in
     let after = (gone ++ added) ++ self.commands.items in
     let gone_on : before ++ added ≡ after = counted_gone gone self.commands.items added none_held in
-    let said : spelled_in profile (self.items + 1) (length text) item before ≡ Ok after = spelled_ok profile (self.items + 1) (length text) item before whats short (f.parses profile (is_plotting before)) ∙ (ap (λ b. Ok (before ++ item_entries (self.items + 1) b whats)) (sym h.offset) ∙ ap (λ (x : Entries). Ok x) gone_on) in
+    let said : spelled_in profile (self.items + 1) (length text) item before ≡ Ok after = spelled_ok profile (self.items + 1) (length text) item before whats short (f.parses profile (latest_action before)) ∙ (ap (λ b. Ok (before ++ item_entries (self.items + 1) b whats)) (sym h.offset) ∙ ap (λ (x : Entries). Ok x) gone_on) in
     record {
       items = h.items ++ k.last ∷ [];
       rest = [];
       splits = k.splits;
       commands = k.shows ∙ said;
       profile_is = h.profile_is;
-      plotting = plots_on before after added what self.plotting self.plotting (sym gone_on) refl h.plotting (ap (λ o. unwrap_or o self.plotting) (sym (plots_no found.kind _)));
+      latest = latest_on before after added what self.latest self.latest (sym gone_on) refl h.latest (ap (λ o. option_or o self.latest) (sym (no_action found.kind _)));
       count = ap (λ n. n + 1) h.count ∙ sym k.count;
       pending = λ _. no_item;
       start = λ _ lt. absurd (omega arith);

@@ -1,4 +1,4 @@
-use Rattle.gerber_text.proofs.Common.{◌≡◌, ◌+◌, ◌≤◌, Ok, ℕ, List, [], ◌∷◌, ◌++◌, length, take, sym, ap, ◌∙◌, arith, append_assoc, length-append, length-take, nil_from_length, err_from_is_err_and, Command, Operate, modes_of, Entries, is_plotting, item_entries, spelled_in, item_limit}
+use Rattle.gerber_text.proofs.Common.{◌≡◌, ◌+◌, ◌≤◌, Ok, ℕ, List, [], ◌∷◌, ◌++◌, length, take, sym, ap, ◌∙◌, arith, append_assoc, length-append, length-take, nil_from_length, err_from_is_err_and, Command, Operate, modes_of, Entries, latest_action, item_entries, spelled_in, item_limit}
 use Rattle.gerber_text.proofs.ShowsLemmas.{out_of_memory}
 use Rattle.gerber_text.proofs.ReaderStepLemmas.{length-bytes_of}
 use Rattle.gerber_text.proofs.Items.{takes, spelled_ok}
@@ -20,14 +20,14 @@ returns-clause-ok c profile gone text h =
     let k = takes profile text item h.items h.rest (self.items + 1) before h.splits no_rest none h.commands begins.one begins.kept short (omega (arith, h.count)) in
     let after = gone ++ c.add_with_mode.new.commands.items in
     let added : before ++ item_entries (self.items + 1) (length text) whats ≡ after = ap (λ b. before ++ item_entries (self.items + 1) b whats) (sym h.offset) ∙ sym (ap (λ (x : Entries). gone ++ x) c.in_ok-self.ensures.added ∙ sym (append_assoc gone self.commands.items (item_entries (self.items + 1) self.offset whats))) in
-    let said : spelled_in profile (self.items + 1) (length text) item before ≡ Ok after = spelled_ok profile (self.items + 1) (length text) item before whats short (begins.parses profile (is_plotting before)) ∙ ap (λ (x : Entries). Ok x) added in
+    let said : spelled_in profile (self.items + 1) (length text) item before ≡ Ok after = spelled_ok profile (self.items + 1) (length text) item before whats short (begins.parses profile (latest_action before)) ∙ ap (λ (x : Entries). Ok x) added in
     record {
       items = h.items ++ k.last ∷ [];
       rest = [];
       splits = k.splits;
       commands = k.shows ∙ said;
       profile_is = h.profile_is;
-      plotting = c.in_ok-self.ensures.plotting before h.plotting ∙ ap is_plotting (ap (λ b. before ++ item_entries (self.items + 1) b whats) h.offset ∙ added);
+      latest = c.in_ok-self.ensures.latest before h.latest ∙ ap latest_action (ap (λ b. before ++ item_entries (self.items + 1) b whats) h.offset ∙ added);
       count = ap (λ n. n + 1) h.count ∙ sym k.count;
       pending = λ _. no_item;
       start = λ _ lt. absurd (omega arith);

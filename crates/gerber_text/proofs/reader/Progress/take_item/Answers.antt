@@ -44,9 +44,9 @@ returns-clause-ok c profile gone text h =
       items = h.items ++ k.last ∷ [];
       rest = [];
       splits = k.splits;
-      commands = k.shows ∙ ((λ i. spelled_in (sym h.profile_is i) (old.items + 1) (sym h.offset i) item (gone ++ old.commands.items)) ∙ c.in_ok-self.ensures.spelled gone h.plotting);
+      commands = k.shows ∙ ((λ i. spelled_in (sym h.profile_is i) (old.items + 1) (sym h.offset i) item (gone ++ old.commands.items)) ∙ c.in_ok-self.ensures.spelled gone h.latest);
       profile_is = h.profile_is;
-      plotting = c.in_ok-self.ensures.plotting gone h.plotting;
+      latest = c.in_ok-self.ensures.latest gone h.latest;
       count = ap (λ n. n + 1) h.count ∙ sym k.count;
       pending = λ _. no_item;
       start = λ _ lt. absurd (omega arith);
@@ -60,7 +60,7 @@ returns-in_err-self-clause-err c =
     let no_item : old.item.items ≡ [] = nil_from_length _ (omega (arith, old.item.ok.0, c.requires.fresh)) in
     let e = c.in_err-self.field-0.0 in
     let p = err_from_is_err_and c.from_residual.result c.from_residual.ensures.1 in
-    rw (p.1, p.2) (refused_or_memory old c.args.bytes.now c.args.len c.requires.running no_item c.requires.prefix c.parse_item.new.commands.items c.in_err-self.ensures.err e (λ profile gone text h. c.in_err-self.ensures.spelled gone h.plotting))
+    rw (p.1, p.2) (refused_or_memory old c.args.bytes.now c.args.len c.requires.running no_item c.requires.prefix c.parse_item.new.commands.items c.in_err-self.ensures.err e (λ profile gone text h. c.in_err-self.ensures.spelled gone h.latest))
 
 pub parse_item-requires-clause-item : goal.parse_item-requires-clause-item
 parse_item-requires-clause-item c = (c.requires.prefix.one.prefix, c.requires.prefix.one.whole)

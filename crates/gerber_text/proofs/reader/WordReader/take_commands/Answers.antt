@@ -1,4 +1,4 @@
-use Rattle.gerber_text.proofs.Common.{rules, ◌≡◌, ◌++◌, [], sym, ap, ◌∙◌, Ok, Entries, is_plotting}
+use Rattle.gerber_text.proofs.Common.{rules, ◌≡◌, ◌++◌, [], sym, ap, ◌∙◌, Ok, Entries, latest_action}
 use Rattle.std.proofs.Common.{append-nil}
 use Rattle.gerber_text.proofs.reader.WordReader.take_commands.Goals as goal
 
@@ -15,7 +15,7 @@ returns-clause-gone c profile gone text h =
         rest = h.holds.rest;
         splits = h.holds.splits;
         commands = h.holds.commands ∙ ap (λ (x : Entries). Ok x) same;
-        plotting = h.holds.plotting ∙ ap is_plotting same;
+        latest = h.holds.latest ∙ ap latest_action same;
         count = h.holds.count;
         pending = h.holds.pending;
         start = h.holds.start;

@@ -1,6 +1,4 @@
-use Rattle.package_check.proofs.Common.{◌≡◌, ◌∙◌, ◌++◌, ◌∷◌, List, [], true, append-nil, ap, arith, eqb-true, length, map, refl, subst, sym, wide_pad_covers, WidePad, tried_more, Covering, HasTried, HasTriedIn, Drilled, RingIndex, HolesView}
-use Rattle.std.specs.Prelude.{◌==◌}
-use Rattle.ring_rules.specs.Search.{HasTriedCoverings}
+use Rattle.package_check.proofs.Common.{◌≡◌, ◌∙◌, ◌++◌, ◌∷◌, List, [], true, append-nil, ap, arith, eqb-true, length, map, refl, subst, sym, wide_pad_covers, WidePad, tried_more, Covering, HasTried, HasTriedIn, Drilled, RingIndex, HolesView, ◌==◌, HasTriedCoverings}
 use Rattle.package_check.proofs.indexed_holes.IndexedHoles.try_pads.Goals as goal
 
 -- pads that cover what no pads cover are none

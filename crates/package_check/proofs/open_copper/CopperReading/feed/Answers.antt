@@ -1,8 +1,6 @@
-use Rattle.package_check.proofs.Common.{◌++◌, refl, subst, HasReadCopper}
+use Rattle.package_check.proofs.Common.{◌++◌, refl, subst, HasReadCopper, CopperReading, on_ok_weaker}
 use Rattle.manifest.specs.declared.Role.TheVariants as role
-use Rattle.package_check.specs.declared.open_copper.CopperReading.{CopperReading}
 use Rattle.package_check.proofs.CopperPieces.{no_span}
-use Rattle.std.proofs.lemmas.Result.{on_ok_weaker}
 use Rattle.package_check.proofs.OpenFiles.{layer_errs}
 use Rattle.package_check.proofs.open_copper.CopperReading.feed.Goals as goal
 

@@ -1,5 +1,4 @@
-use Rattle.package_check.proofs.Common.{subst, HasReadCopper}
-use Rattle.package_check.specs.declared.open_copper.CopperReading.{CopperReading}
+use Rattle.package_check.proofs.Common.{subst, HasReadCopper, CopperReading}
 use Rattle.package_check.proofs.CheckSteps.{judged_bytes}
 use Rattle.package_check.proofs.CopperPieces.{failed_judged}
 use Rattle.package_check.proofs.open_copper.CopperReading.finish.Goals as goal

@@ -1,6 +1,4 @@
-use Rattle.package_check.proofs.Common.{◌++◌, [], subst, drill_kind, HasReadText, copper_keep, mixed_in}
-use Rattle.package_check.specs.declared.open_file.Reading.{Reading}
-use Rattle.std.proofs.lemmas.Result.{on_ok_weaker}
+use Rattle.package_check.proofs.Common.{◌++◌, [], subst, drill_kind, HasReadText, copper_keep, mixed_in, Reading, on_ok_weaker}
 use Rattle.package_check.proofs.OpenFiles.{drill_errs, layer_errs, mixed_errs}
 use Rattle.package_check.proofs.open_file.Reading.feed.Goals as goal
 

@@ -1,5 +1,4 @@
-use Rattle.package_check.proofs.Common.{subst, HasReadText}
-use Rattle.package_check.specs.declared.open_file.Reading.{Reading}
+use Rattle.package_check.proofs.Common.{subst, HasReadText, Reading}
 use Rattle.package_check.proofs.OpenFiles.{failed_read, read_as_copper, read_as_drill, read_as_mixed}
 use Rattle.package_check.proofs.open_file.Reading.finish.Goals as goal
 

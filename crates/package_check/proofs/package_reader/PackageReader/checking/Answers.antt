@@ -1,8 +1,4 @@
-use Rattle.package_check.proofs.Common.{◌≡◌, List, Option, ap, length, map, refl, rules, sym, ◌∙◌, flat_map, Kept, count_in, holes_in}
-use Rattle.std.proofs.lemmas.Iterator.Adapters.{YieldsList-from_vec}
-use Rattle.std.proofs.lemmas.Iterator.Consumers.{YieldsList-end}
-use Rattle.std.proofs.lemmas.List.{map-id}
-use Rattle.std.specs.Vec.Iter.{into_iter_len}
+use Rattle.package_check.proofs.Common.{◌≡◌, List, Option, ap, length, map, refl, rules, sym, ◌∙◌, flat_map, Kept, count_in, holes_in, YieldsList-from_vec, YieldsList-end, map-id, into_iter_len}
 use Rattle.package_check.proofs.DrillSlots.{goes_on, slots_counted}
 use Rattle.package_check.proofs.package_reader.PackageReader.checking.Goals as goal
 

@@ -1,6 +1,8 @@
-use Rattle.macro_shapes.proofs.Common.{◌+◌, ℕ, List, ◌∷◌, take, sym, ap, ◌∙◌, take_rest, split_by}
-use Rattle.macro_shapes.proofs.SplitLemmas.{split_some, split_none}
-use Rattle.macro_shapes.proofs.piece.split_first.Goals as goal
+use Rattle.std.proofs.Common.{◌+◌, ℕ, List, ◌∷◌, take, sym, ap, ◌∙◌}
+use Rattle.std.proofs.lemmas.List.{take_rest}
+use Rattle.grid_units.specs.Rows.{split_by}
+use Rattle.grid_units.proofs.SplitLemmas.{split_some, split_none}
+use Rattle.grid_units.proofs.text.split_first.Goals as goal
 
 pub returns-in-Some-clause-parts : goal.returns-in-Some-clause-parts
 returns-in-Some-clause-parts c =

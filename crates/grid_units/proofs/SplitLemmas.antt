@@ -1,6 +1,14 @@
--- The parts of a text.
-use Rattle.macro_shapes.proofs.Common.{◌≡◌, ℕ, suc, ◌+◌, ◌≤◌, Bool, true, false, cond, not, eqb, ltb, List, [], ◌∷◌, length, take, drop, None, Some, refl, ap, ◌∙◌, arith, onto_first, position, position_or_len, ltb-true, ltb-false, split_by}
+-- The first part of a text, and the others.
+use Rattle.std.proofs.Common.{◌≡◌, ℕ, suc, ◌+◌, ◌≤◌, Bool, true, false, cond, not, eqb, ltb, List, [], ◌∷◌, length, take, drop, Option, None, Some, refl, ap, ◌∙◌, arith}
+use Rattle.std.specs.List.{onto_first, position, position_or_len}
 use Rattle.std.proofs.lemmas.List.Splits.{slice_split_first}
+use Rattle.std.proofs.lemmas.Bool.{ltb-true, ltb-false}
+use Rattle.grid_units.specs.Rows.{split_by}
+
+-- a measure of an optional text that is left: 0 for none, else one more than its bytes
+abbrev pub left_of : Option (List ℕ) → ℕ
+left_of None = 0
+left_of (Some text) = suc (length text)
 
 pub split_some : (at : ℕ) (text : List ℕ) (i : ℕ) → position (λ b. eqb b at) text ≡ Some i → split_by at text ≡ take i text ∷ split_by at (drop (i + 1) text)
 split_some at text i e = by (ltb (position_or_len (λ b. eqb b at) text) (length text)) refl e
