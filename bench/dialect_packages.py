@@ -17,10 +17,10 @@ Each row is one thing that other tools write; `--rows NAME,NAME` takes some of t
     layer-words           other words of older layers that say nothing, or end the text
     repeated-hits         `R` with a count and a step, after a hit
     said-by-the-user      a manifest that names the unit, the digits and the zeros of a drill file
-    all-primitives        a macro has the shapes of all its primitives, each in turn as the first
+    all-primitives        a macro has the shape by its first primitive, and in its place that by each later one that holds the one so far
     polygons              a regular polygon of a macro is at least the disc inside of it, where the macro is turned by quarters
     polygon-apertures     so is a flash of the standard polygon aperture
-    turned                what is turned is at least its centre disc, and a rectangle turned by 45 degrees is judged exactly
+    turned                what is turned is at least its centre disc
 
 The slow program is oracle_wide.py in the folder of --oracle, which is not in this repository and knows none of these rows. This script adds them to it,
 from their definitions, plainly and slowly. `compare` runs `PROGRAM check --profile wide` on each package and prints where it differs from the slow program with the rows.
@@ -69,33 +69,6 @@ INSIDE = dict(
 
 # ------------------------------------------------------------------------------------------------
 # Shapes
-
-
-class Diamond(NamedTuple):
-    """A rectangle that is turned by 45 degrees: hx is half of its side towards up and right, hy of the other one."""
-
-    x: int
-    y: int
-    hx: int
-    hy: int
-    name: str = "turned"
-
-    def covers(self, cx, cy, reach):
-        dx, dy = cx - self.x, cy - self.y
-        return reach <= min(self.hx, self.hy) and (dx + dy) ** 2 <= 2 * (self.hx - reach) ** 2 and (dy - dx) ** 2 <= 2 * (self.hy - reach) ** 2
-
-    def half(self):
-        """At least half of its width, which is (hx + hy) / root 2."""
-        return math.isqrt((self.hx + self.hy) ** 2 // 2) + 1
-
-    def left(self):
-        return self.x - self.half()
-
-    def right(self):
-        return self.x + self.half()
-
-    def sides(self):
-        return 2 * self.half(), 2 * self.half()
 
 
 class Several(NamedTuple):
@@ -157,8 +130,6 @@ def changed(module, **functions):
 # The slow program with the rows
 
 NUMBERED_FORMAT = re.compile(rb"%FSLAN[0-9]G[0-9](X[0-9][0-9]Y[0-9][0-9])D[0-9]M[0-9]\*%")
-KINDS = ["outline", "rectangle", "line", "disc"]  # the first of each is kept before all others
-MOST_SHAPES = 8
 
 
 class Said(NamedTuple):
@@ -167,11 +138,6 @@ class Said(NamedTuple):
     unit: object
     pattern: object
     zeros: object
-
-    def text(self):
-        unit = {None: "", "Inch": "inch", "Millimetre": "mm"}[self.unit]
-        digits = f"{self.pattern[0]}:{self.pattern[1]}" if self.pattern else ""
-        return f"{unit},{digits},{(self.zeros or b'').decode()}".encode()
 
 
 NOTHING_SAID = Said(None, None, None)
@@ -184,7 +150,7 @@ def said_by(record):
     if len(record) != 8:
         return None
     unit, digits, zeros = record[5:]
-    if unit not in UNITS or not re.fullmatch(rb"([1-6]:[1-6])?", digits) or zeros not in (b"", b"LZ", b"TZ") or (record[0] == b"copper" and unit + digits + zeros):
+    if unit not in UNITS or not re.fullmatch(rb"([1-6]:[1-6])?", digits) or zeros not in (b"", b"LZ", b"TZ") or (record[0] == b"copper" and unit) or (digits + zeros and not unit):
         return None
     return Said(UNITS[unit], (int(digits[:1]), int(digits[2:])) if digits else None, zeros or None)
 
@@ -302,8 +268,7 @@ class Slow:
     def fits(self, shape):
         if isinstance(shape, self.w.Rounded):
             return self.w.fits(shape)
-        sizes = (shape.radius,) if isinstance(shape, self.o.Disc) else (shape.hx, shape.hy)
-        return max(sizes) <= self.o.MAX_LENGTH // 2
+        return shape.radius <= self.o.MAX_LENGTH // 2
 
     def shapes_of_flashes(self, layer):
         """For each flash, copies too, the shapes about (0, 0) that the rows give it; none where the slow program knows best."""
@@ -330,93 +295,64 @@ class Slow:
         if template.letter == b"P" and "polygon-apertures" in self.rows:
             return self.disc_inside(template.sizes[1] // ONE, sizes[0])
         if template.letter in (b"R", b"O") and "turned" in self.rows and before.turn % QUARTER != 0:
-            if template.letter == b"O":
-                return [self.o.Disc(0, 0, min(sizes) // 2)]
-            return [self.turned_rectangle(*sizes, before.turn)]
+            return [self.turned_rectangle(*sizes)]
         return []
 
     def disc_inside(self, corners, diameter):
         return [self.o.Disc(0, 0, diameter * INSIDE[corners] // (2 * 10**18))] if diameter <= self.o.MAX_LENGTH else []
 
-    def turned_rectangle(self, width, height, angle):
-        """A rectangle about (0, 0), turned."""
-        angle %= 2 * QUARTER
-        if angle in (QUARTER // 2, 3 * QUARTER // 2):
-            hx, hy = (width // 2, height // 2) if angle == QUARTER // 2 else (height // 2, width // 2)
-            return Diamond(0, 0, hx, hy)
-        if angle % QUARTER:
-            return self.o.Disc(0, 0, min(width, height) // 2)
-        hx, hy = (width // 2, height // 2) if angle == 0 else (height // 2, width // 2)
-        return self.w.Rounded(((-hx, -hy), (hx, -hy), (hx, hy), (-hx, hy)), 0)
+    def turned_rectangle(self, width, height):
+        """A rectangle about (0, 0), turned by any angle: the disc inside of it."""
+        return self.o.Disc(0, 0, min(width, height) // 2)
 
     def shapes_of_macro(self, pieces, parameters, before, mirror):
         try:
             found = self.primitives(pieces, parameters)
         except self.w.NotJudged:
             return []
-        orders = [found]
-        if "all-primitives" in self.rows:
-            orders = [[first, *found[:at], *found[at + 1 :]] for at, first in enumerate(found)]
-        shapes = []
-        for order in orders:
-            for shape in self.shapes_by_first(order, self.o.DEC_PM[before.unit], before.turn, mirror):
-                if shape not in [other for _, other in shapes]:
-                    shapes.append((self.kind(order[0]), shape))
-        firsts = [next((it for it in shapes if it[0] == kind), None) for kind in KINDS]
-        ordered = [it for it in firsts if it is not None] + [it for it in shapes if it not in firsts]
-        return [shape for _, shape in ordered[:MOST_SHAPES]]
-
-    def kind(self, primitive):
-        kinds = {self.w.Outline: "outline", self.w.Box: "rectangle", Tilted: "rectangle", self.w.Line: "line", self.w.Circle: "disc", Polygon: "polygon"}
-        return kinds[type(primitive)]
-
-    def shapes_by_first(self, order, pm, turn, mirror):
-        """The shapes about (0, 0) of a macro by the first of its primitives; pm is the length of 10^-8."""
-        first = order[0]
-        if isinstance(first, Polygon):
-            return self.disc_inside(first.corners, first.diameter * pm) if turn % QUARTER == 0 or "turned" in self.rows else []
-        if isinstance(first, Tilted):
-            angle = first.rotation if mirror in (b"N", b"XY") else -first.rotation
-            return [self.turned_rectangle(first.width * pm, first.height * pm, angle + turn)]
-        if turn % QUARTER:
-            if isinstance(first, self.w.Box) and first.at == (0, 0) and "turned" in self.rows:
-                return [self.turned_rectangle(first.width * pm, first.height * pm, turn)]
+        pm = self.o.DEC_PM[before.unit]
+        shapes = [self.shape_by(primitive, found, pm) for primitive in (found if "all-primitives" in self.rows else found[:1])]
+        shape = None
+        for other in shapes:
+            if shape is None or (other is not None and not self.is_centred(shape) and self.holds(other, shape)):
+                shape = other
+        if shape is None or before.turn % QUARTER and not ("turned" in self.rows and self.is_centred(shape)):
             return []
-        shapes = [self.shape_of_first(order)]
-        if "all-primitives" in self.rows and all(isinstance(it, self.w.Line) for it in order[:2]) and len(order) > 1:
-            shapes.append(self.crossed(order))
-        return [self.placed(shape, pm // 2, turn, mirror) for shape in shapes if shape is not None]
+        return [shape if before.turn % QUARTER else self.placed(shape, before.turn, mirror)]
+
+    def shape_by(self, primitive, found, pm):
+        """The shape about (0, 0) of a macro by one of its primitives, or None; pm is the length of 10^-8."""
+        if isinstance(primitive, (Polygon, Tilted)):
+            discs = self.disc_inside(primitive.corners, primitive.diameter * pm) if isinstance(primitive, Polygon) else [self.turned_rectangle(primitive.width * pm, primitive.height * pm)]
+            return next((self.w.Rounded(((0, 0),), disc.radius) for disc in discs), None)
+        second = found[1:2] if isinstance(primitive, self.w.Box) else []
+        others = [it for it in found if it is not primitive]
+        shape = self.shape_of_first([primitive, *second, *others] if found[:1] != [primitive] else found)
+        if shape is None:
+            return None
+        return self.w.Rounded(tuple((x * (pm // 2), y * (pm // 2)) for x, y in shape[0]), shape[1] * (pm // 2))
+
+    def is_centred(self, shape):
+        return shape.corners == ((0, 0),)
+
+    def holds(self, shape, other):
+        return all(shape.covers(x, y, other.rho) for x, y in other.corners)
 
     def shape_of_first(self, order):
         """The macro's shape by its first primitive, as the slow program says: doubled corners and a diameter, in 10^-8; or None."""
         with changed(self.w, primitives=lambda *_: order):
             return self.w.macro_shape(None, None)
 
-    def crossed(self, order):
-        """Two lines along axes with one centre and discs at the corners of their common part are a cross, as two rectangles are; or None."""
-        rectangles = []
-        for line in order[:2]:
-            (x, y), (u, v) = line.a, line.b
-            if (x != u and y != v) or (x, y) == (u, v) or line.width == 0:
-                return None
-            length, width = 2 * (abs(u - x) + abs(v - y)), 2 * line.width
-            rectangles.append(self.w.Box(*((length, width) if y == v else (width, length)), (x + u, y + v)))  # all of it doubled
-        discs = [self.w.Circle(2 * it.diameter, (2 * it.at[0], 2 * it.at[1])) for it in order if isinstance(it, self.w.Circle)]
-        corners, diameter = self.shape_of_first([*rectangles, *discs])
-        if (corners, diameter) == self.shape_of_first(rectangles[:1]):
-            return None
-        return tuple((x // 2, y // 2) for x, y in corners), diameter // 2
-
-    def placed(self, shape, half, turn, mirror):
-        """Mirrored and turned by quarters, in pm."""
-        corners = [(x * half, y * half) for x, y in shape[0]]
+    def placed(self, shape, turn, mirror):
+        """Mirrored and turned by quarters."""
+        corners = list(shape.corners)
         if b"X" in mirror:
             corners = [(-x, y) for x, y in corners]
         if b"Y" in mirror:
             corners = [(x, -y) for x, y in corners]
         if mirror in (b"X", b"Y"):
             corners.reverse()
-        return self.w.Rounded(tuple(self.w.turned(p, turn // QUARTER) for p in corners), shape[1] * half)
+        return self.w.Rounded(tuple(self.w.turned(p, turn // QUARTER) for p in corners), shape.rho)
 
     # Primitives
 
@@ -500,8 +436,6 @@ class Slow:
                 for command in reader.commands(whole.rstrip(b" \t\r")):
                     reader.judge(command)
                     reader.placed.append(self.o.Placed(place, byte, command))
-            except SaidOtherwise as refusal:
-                raise self.o.Fault(0, 0, refusal.reason) from None
             except self.o.Refused as refusal:
                 raise self.o.Fault(place, byte, refusal.reason) from None
             byte += len(whole) + 1
@@ -538,30 +472,17 @@ class Slow:
 
         with changed(self.w, read_layer=self.read_layer, read_drill=read_drill, held=held):
             text, report = self.w.check(files, rules, "wide")
-        lines = text.split(b"\n")
-        for at, (_, what) in enumerate(entries, 1):
-            if what != NOTHING_SAID:
-                lines[at] = lines[at].replace(b" name=", b" said=" + what.text() + b" name=", 1)
-        return files, (b"\n".join(lines), report)
-
-
-class SaidOtherwise(Exception):
-    """A file that says other than the manifest does."""
-
-    def __init__(self, reason):
-        super().__init__(reason)
-        self.reason = reason
+        return files, (text, report)
 
 
 class DrillReader:
     """Reads a drill file line by line."""
 
     def __init__(self, slow, mixed, said):
-        self.slow, self.w, self.o, self.rows, self.mixed, self.said = slow, slow.w, slow.o, slow.rows, mixed, said
+        self.slow, self.w, self.o, self.rows, self.mixed = slow, slow.w, slow.o, slow.rows, mixed
         self.before, self.placed, self.holes, self.plated = slow.o.DrillBefore(), [], [], []
         self.route, self.ends, self.plating, self.plating_of_tool, self.stopped = "off", [], "none", {}, False
         self.before.unit, self.before.pattern, self.before.zeros = said
-        self.without_start = False
 
     def commands(self, line):
         """What a line spells."""
@@ -587,8 +508,6 @@ class DrillReader:
             return []
         if self.before.part == "before":
             return self.commands_before(line)
-        if self.before.part == "header" and self.without_start:
-            return self.commands_of_header(line)
         if self.before.part == "body":
             return self.commands_of_body(line)
         command = self.o.spell_line(line, self.before.part, self.before.format)
@@ -605,34 +524,14 @@ class DrillReader:
         return (part in ("header", "body") and line == b"G93X0Y0") or (part == "header" and line == b"R,H") or (part == "after" and line.startswith(b";"))
 
     def commands_before(self, line):
-        """Of a line before `M48`. It may lack where the manifest says something of the file."""
-        if line == b"M30":
-            return [self.o.Finish()]
-        if self.said != NOTHING_SAID and line not in (b"", b"%", b"M48") and not line.startswith(b";"):
-            self.before.part, self.without_start = "header", True
-            return self.commands_of_header(line)
-        command = self.o.spell_line(line, "before", None)
+        """Of a line before `M48`."""
+        command = self.o.Finish() if line == b"M30" else self.o.spell_line(line, "before", None)
         return [] if command is None else [command]
-
-    def commands_of_header(self, line):
-        """Of a header that no `M48` begins: the first line that no header has ends it."""
-        try:
-            command = self.o.spell_line(line, "header", None)
-        except self.o.Refused as refusal:
-            if refusal.reason != "BadLine":
-                raise
-            self.judge(self.o.HeaderEnd())
-            return self.commands(line)
-        picks = [self.o.Pick(command.number)] if isinstance(command, self.o.Tool) else []
-        return [] if command is None else [command, *picks]
 
     def commands_of_body(self, line):
         repeat = self.slow.repeat_line.fullmatch(line) if "repeated-hits" in self.rows else None
         if repeat and self.placed and isinstance(self.placed[-1].what, self.o.Hit):
             return self.further_hits(*repeat.groups())
-        if self.said != NOTHING_SAID and self.o.TOOL_LINE.fullmatch(line) and b"C" in line:  # it defines and picks
-            command = self.o.spell_line(line, "header", None)
-            return [command, self.o.Pick(command.number)]
         command = self.o.spell_line(line, "body", self.before.format)
         if self.route == "rout" and line == b"G05":
             self.route = "off"
@@ -656,8 +555,6 @@ class DrillReader:
         if alike and not (self.mixed and self.plating_of_tool[command.number] != self.plating):
             return
         reason = self.o.drill_rule(self.before, command)
-        if reason in ("UnitConflict", "FormatConflict") and self.is_against(command):
-            raise SaidOtherwise(reason)
         if reason:
             raise self.o.Refused(reason)
         if self.mixed:
@@ -665,13 +562,6 @@ class DrillReader:
         if isinstance(command, (self.o.Hit, self.o.Slot)):
             self.holes.append(self.o.hole_of(self.before, command))
         self.before.take(command)
-
-    def is_against(self, command):
-        """Whether a command of a unit or a format is other than the manifest says."""
-        unit = getattr(command, "unit", None)
-        pattern = self.o.given_pattern(command)
-        zeros = getattr(command, "zeros", None)
-        return any(None not in (file, user) and file != user for file, user in zip((unit, pattern, zeros), self.said))
 
     def judge_plating(self, command):
         if isinstance(command, self.o.Comment) and self.w.plating_of(command.text):

@@ -59,8 +59,9 @@ const CHECK_USAGE: &str = "ringcheck check --ring <MM> --gap <MM> [--profile <st
 const CHECK: &str = "A manifest is a CSV file. Its first line is role,name,file, and each other line
 names a file; the role is copper, plated or unplated, or, in the wide profile,
 mixed. With role,name,file,first,last a drill file can name the first and the
-last layer that its holes go through. File names are relative to the working
-directory, or to the folder of --in.
+last layer that its holes go through, and in the wide profile, with
+unit,digits,zeros after these, how its coordinates are written: inch,2:4,TZ.
+File names are relative to the working directory, or to the folder of --in.
 Example:  ringcheck check --ring 0.125 --gap 0.25 board.csv";
 
 // After `Usage: ` it stands on two lines.

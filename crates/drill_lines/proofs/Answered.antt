@@ -1,36 +1,15 @@
 -- Of a line that is written for a command, or for nothing, the rows answer just that.
-use Rattle.std.proofs.Common.{◌≡◌, ◌≢◌, ℕ, zero, suc, ◌≤◌, Bool, true, false, cond, not, ◌||◌, ◌&&◌, eqb, leb, List, [], ◌∷◌, ◌++◌, length, drop, ℤ, Option, Some, None, is_some, Result, Ok, Err, IfSome, refl, sym, ap, subst, ◌∙◌, arith, append_assoc, replicate}
-use Rattle.std.specs.Prelude.{codes, take_while, count_by}
-use Rattle.std.specs.List.{Contains, list_all, prefix_len, after_first, AllByRecursion}
-use Rattle.std.proofs.lemmas.Bool.{le-leb, eq-eqb}
-use Rattle.std.proofs.lemmas.Bool.Decides.{nat_tests}
-use Rattle.std.proofs.lemmas.List.{append-nil}
-use Rattle.std.proofs.lemmas.List.Elements.{All-from_recursion, All-contains}
+use Rattle.drill_lines.proofs.Common.{◌≡◌, ◌≢◌, ℕ, zero, suc, ◌≤◌, Bool, true, false, cond, not, ◌||◌, ◌&&◌, eqb, leb, List, [], ◌∷◌, ◌++◌, length, drop, ℤ, Option, Some, None, is_some, Result, Ok, Err, IfSome, refl, sym, ap, subst, ◌∙◌, arith, append_assoc, replicate, codes, take_while, count_by, list_all, prefix_len, after_first, AllByRecursion, le-leb, eq-eqb, nat_tests, append-nil, All-from_recursion, All-contains, Reason, BadLine, BadNumber, Inch, Millimetre, Zeros, Leading, Trailing, Full, ◌>>=◌, both, is_digit, is_digits, is_number_char, value, and_true, both_true, list_all_weaker, list_all_append, length-zeros, Coordinates, Part, Settings, DrillCommand, Comment, Start, UnitLine, Tool, HeaderEnd, UnitCode, Pick, Hit, Slot, Finish, Digits, AreDigitCounts, is_zero, is_digit_count, digit_counts, pattern_from, is_diameter_letter, is_tool_letter, is_skipped_letter, begins_with, are_fields, field, Runs, runs_of, has_run, one_command, begins_comment, unit_word, zeros_text, pattern_text, canonical, can_give_zeros, IsInRange, fixed_lines, unit_words, zeros_words, IsNumber, IsCoordinate, IsPointText}
+use Rattle.std.specs.List.{Contains}
 use Rattle.std.proofs.lemmas.List.Sums.{sum_by-append}
-use Rattle.grid_units.specs.declared.fault.Reason.{Reason}
-use Rattle.grid_units.specs.declared.fault.Reason.TheVariants.{BadLine, BadNumber}
 use Rattle.grid_units.specs.declared.lengths.Unit.{Unit as Units}
-use Rattle.grid_units.specs.declared.lengths.Unit.TheVariants.{Inch, Millimetre}
-use Rattle.grid_units.specs.declared.zero_filling.Zeros.{Zeros}
-use Rattle.grid_units.specs.declared.zero_filling.Zeros.TheVariants.{Leading, Trailing, Full}
-use Rattle.grid_units.specs.Results.{◌>>=◌, both}
-use Rattle.grid_units.specs.Numbers.{is_digit, is_digits, is_number_char, value}
-use Rattle.grid_units.proofs.BoolLemmas.{and_true, both_true}
-use Rattle.grid_units.proofs.ListLemmas.{list_all_weaker, list_all_append, prefix_len_append, take_while_append, drop_run_append}
-use Rattle.grid_units.proofs.SpellingsLemmas.{length-zeros}
-use Rattle.drill_lines.specs.declared.command.Coordinates.{Coordinates}
-use Rattle.drill_lines.specs.declared.command.Part.{Part}
+use Rattle.grid_units.proofs.ListLemmas.{prefix_len_append, take_while_append, drop_run_append}
 use Rattle.drill_lines.specs.declared.command.Part.TheVariants as part
-use Rattle.drill_lines.specs.declared.command.Settings.{Settings}
-use Rattle.drill_lines.specs.declared.command.DrillCommand.{DrillCommand}
-use Rattle.drill_lines.specs.declared.command.DrillCommand.TheVariants.{Comment, Start, UnitLine, Tool, HeaderEnd, UnitCode, Pick, Hit, Slot, Finish}
-use Rattle.drill_lines.specs.Formats.{Digits, AreDigitCounts}
-use Rattle.drill_lines.specs.Header.{is_zero, is_digit_count, digit_counts, pattern, pattern_from, unit_format, unit_line}
-use Rattle.drill_lines.specs.Tools.{is_diameter_letter, is_tool_letter, is_skipped_letter, begins_with, are_fields, tool_number, diameter_of, diameter_run, tool_fields, tool_line, pick_fields, pick_line}
-use Rattle.drill_lines.specs.HoleLines.{coordinate, field, Runs, runs_of, has_run, coordinates, point_line, slot_line, hole_from, hole_line}
-use Rattle.drill_lines.specs.Meaning.{one_command, lines_before, common_lines, header_ends, body_prefixes, begins_comment, line_in, meaning}
-use Rattle.drill_lines.specs.Writing.{unit_word, zeros_text, pattern_text, canonical, can_give_zeros, IsInRange}
-use Rattle.drill_lines.specs.Grammar.{fixed_lines, unit_words, zeros_words, IsUnitLine, IsNumber, IsToolLine, IsPickLine, IsCoordinate, IsPointText, IsSlotLine}
+use Rattle.drill_lines.specs.Header.{pattern, unit_format, unit_line}
+use Rattle.drill_lines.specs.Tools.{tool_number, diameter_of, diameter_run, tool_fields, tool_line, pick_fields, pick_line}
+use Rattle.drill_lines.specs.HoleLines.{coordinate, coordinates, point_line, slot_line, hole_from, hole_line}
+use Rattle.drill_lines.specs.Meaning.{lines_before, common_lines, header_ends, body_prefixes, line_in, meaning}
+use Rattle.drill_lines.specs.Grammar.{IsUnitLine, IsToolLine, IsPickLine, IsSlotLine}
 use Rattle.drill_lines.specs.Laws.{WrittenIsAnswered, SpellsAtMostOne}
 use Rattle.drill_lines.proofs.CutLemmas.{nested, after_more, after_here, decimal_numbers, coordinate_numbers}
 use Rattle.drill_lines.proofs.SkippedFields.{is_field_byte, is_skipped_byte, letter_no_digit, letter_no_number, written_bytes, written_begins, fields_end, last_fields_end, count_more}

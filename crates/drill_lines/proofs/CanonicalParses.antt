@@ -1,34 +1,16 @@
 -- The canonical line of a command spells just it, since it is so written.
-use Rattle.std.proofs.Common.{◌≡◌, ℕ, suc, ◌≤◌, Bool, true, false, cond, not, ◌||◌, ◌&&◌, eqb, leb, ltb, List, [], ◌∷◌, ◌++◌, length, ℤ, Option, Some, None, Ok, Contains, refl, sym, ap, subst, ◌∙◌, arith, append_assoc, append-nil, replicate, ◌⊎◌, inl, inr, lit<, lit≤, IfSome}
-use Rattle.std.specs.Prelude.{decimal, codes}
-use Rattle.std.specs.List.{list_all, list_any}
-use Rattle.std.proofs.lemmas.List.{length-append}
-use Rattle.std.proofs.lemmas.Fmt.{length-decimal-le}
-use Rattle.std.proofs.lemmas.Bool.{leb-true, eqb-true, ltb-true}
+use Rattle.drill_lines.proofs.Common.{◌≡◌, ℕ, suc, ◌≤◌, Bool, true, false, cond, not, ◌||◌, ◌&&◌, eqb, leb, ltb, List, [], ◌∷◌, ◌++◌, length, ℤ, Option, Some, None, Ok, refl, sym, ap, subst, ◌∙◌, arith, append_assoc, replicate, ◌⊎◌, inl, inr, lit<, lit≤, IfSome, decimal, codes, list_all, list_any, length-append, length-decimal-le, leb-true, eqb-true, Inch, Millimetre, Zeros, Leading, Trailing, Full, is_digit, is_number_char, parse_zero_filled, length-zeros, digit_number, spells_decimal, Coordinates, Part, Settings, DrillCommand, Comment, Start, UnitLine, Tool, HeaderEnd, UnitCode, Pick, Hit, Slot, Finish, Digits, AreDigitCounts, fixed_lines, unit_words, zeros_words, IsNumber, IsCoordinate, IsPointText, IsLine, format_in, zeros_in, is_blank, without_end_blanks, meaning, unit_word, zeros_text, pattern_text, canonical, is_comment_text, can_give_zeros, has_coordinate, is_sayable, IsInRange, and_true, both_true, list_all_weaker, list_all_append}
+use Rattle.std.proofs.Common.{Contains, append-nil}
+use Rattle.std.proofs.lemmas.Bool.{ltb-true}
 use Rattle.grid_units.specs.declared.lengths.Unit.{Unit as Units}
-use Rattle.grid_units.specs.declared.lengths.Unit.TheVariants.{Inch, Millimetre}
-use Rattle.grid_units.specs.declared.zero_filling.Zeros.{Zeros}
-use Rattle.grid_units.specs.declared.zero_filling.Zeros.TheVariants.{Leading, Trailing, Full}
-use Rattle.grid_units.specs.Numbers.{is_digit, is_number_char, parse_zero_filled}
 use Rattle.grid_units.specs.Spellings.{spelling_with_point}
-use Rattle.grid_units.proofs.SpellingsLemmas.{length-zeros, digit_number, spells_decimal}
-use Rattle.drill_lines.specs.declared.command.Coordinates.{Coordinates}
-use Rattle.drill_lines.specs.declared.command.Part.{Part}
 use Rattle.drill_lines.specs.declared.command.Part.TheVariants as part
-use Rattle.drill_lines.specs.declared.command.Settings.{Settings}
-use Rattle.drill_lines.specs.declared.command.DrillCommand.{DrillCommand}
-use Rattle.drill_lines.specs.declared.command.DrillCommand.TheVariants.{Comment, Start, UnitLine, Tool, HeaderEnd, UnitCode, Pick, Hit, Slot, Finish}
-use Rattle.drill_lines.specs.Formats.{Digits, AreDigitCounts}
-use Rattle.drill_lines.specs.Grammar.{fixed_lines, unit_words, zeros_words, IsNumber, IsCoordinate, IsPointText, IsLine}
-use Rattle.drill_lines.specs.HoleLines.{format_in, zeros_in, coordinate_of}
-use Rattle.drill_lines.specs.Lines.{is_blank, without_end_blanks}
-use Rattle.drill_lines.specs.Meaning.{meaning}
-use Rattle.drill_lines.specs.Writing.{unit_word, zeros_text, pattern_text, coordinate_text, point_text, canonical, is_comment_text, can_give_zeros, has_coordinate, is_sayable, IsOptionalDec, IsPoint, IsInRange}
+use Rattle.drill_lines.specs.HoleLines.{coordinate_of}
+use Rattle.drill_lines.specs.Writing.{coordinate_text, point_text, IsOptionalDec, IsPoint}
 use Rattle.drill_lines.proofs.Answered.{shows, pattern_numbers, written_is_answered}
 use Rattle.drill_lines.proofs.CutLemmas.{nested}
 use Rattle.drill_lines.proofs.Runs.{decimal_digits, pointed_run, pointed_short, is_no_blank_or_break, solid_number, solid_kept}
-use Rattle.grid_units.proofs.BoolLemmas.{and_true, both_true, not_empty}
-use Rattle.grid_units.proofs.ListLemmas.{list_all_weaker, list_all_append}
+use Rattle.grid_units.proofs.BoolLemmas.{not_empty}
 
 -- ---- forms
 

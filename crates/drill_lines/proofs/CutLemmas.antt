@@ -1,24 +1,11 @@
 -- Cutting a line: into a run of bytes and what follows it, or after a beginning.
-use Rattle.std.proofs.Common.{◌≡◌, ℕ, suc, ◌+◌, Bool, true, false, cond, not, ◌||◌, ◌&&◌, eqb, ltb, List, [], ◌∷◌, ◌++◌, length, take, drop, ℤ, None, Some, Result, Ok, Err, refl, sym, ap, ◌∙◌, arith, append_assoc}
-use Rattle.std.specs.Prelude.{take_while}
-use Rattle.std.specs.Str.{bytes_eq}
-use Rattle.std.specs.List.{list_all, list_any, prefix_len, before_first, after_first}
-use Rattle.std.proofs.lemmas.Bool.Decides.{nat_tests}
+use Rattle.drill_lines.proofs.Common.{◌≡◌, ℕ, suc, ◌+◌, Bool, true, false, cond, not, ◌||◌, ◌&&◌, eqb, ltb, List, [], ◌∷◌, ◌++◌, length, take, drop, ℤ, None, Some, Result, Ok, Err, refl, sym, ap, ◌∙◌, arith, append_assoc, take_while, bytes_eq, list_all, list_any, prefix_len, before_first, after_first, nat_tests, Reason, BadNumber, Zeros, ◌>>=◌, strip_prefix, is_digit, is_digits, is_number_char, value, Settings, is_point, format_in, zeros_in, and_true, both_true, list_all_weaker, digit_number}
 use Rattle.std.proofs.lemmas.List.{take-append-drop}
 use Rattle.std.proofs.lemmas.List.Sums.{take_while-cons}
 use Rattle.std.proofs.lemmas.Slice.Eq.{bytes_eq-Decides}
-use Rattle.grid_units.specs.declared.fault.Reason.{Reason}
-use Rattle.grid_units.specs.declared.fault.Reason.TheVariants.{BadNumber, TooFar, TooFine}
-use Rattle.grid_units.specs.declared.zero_filling.Zeros.{Zeros}
-use Rattle.grid_units.specs.Results.{◌>>=◌}
-use Rattle.grid_units.specs.Rows.{strip_prefix}
-use Rattle.grid_units.specs.Numbers.{is_digit, is_digits, is_number_char, value, without_sign, signed_value, to_units, whole, fraction, is_decimal, fits_eight_decimals, value_without_point, parse_decimal, zeros_to_fill, zero_filled, parse_zero_filled}
-use Rattle.drill_lines.specs.declared.command.Settings.{Settings}
-use Rattle.drill_lines.specs.Tools.{is_point}
-use Rattle.drill_lines.specs.HoleLines.{format_in, zeros_in, coordinate_of}
-use Rattle.grid_units.proofs.BoolLemmas.{and_true, both_true}
-use Rattle.grid_units.proofs.ListLemmas.{list_all_weaker}
-use Rattle.grid_units.proofs.SpellingsLemmas.{digit_number}
+use Rattle.grid_units.specs.declared.fault.Reason.TheVariants.{TooFar, TooFine}
+use Rattle.grid_units.specs.Numbers.{without_sign, signed_value, to_units, whole, fraction, is_decimal, fits_eight_decimals, value_without_point, parse_decimal, zeros_to_fill, zero_filled, parse_zero_filled}
+use Rattle.drill_lines.specs.HoleLines.{coordinate_of}
 
 -- bytes that a test finds equal
 pub bytes_are : (xs ys : List ℕ) → bytes_eq xs ys ≡ true → xs ≡ ys

@@ -1,10 +1,6 @@
 -- A coordinate whose run is a decimal with a point.
-use Rattle.std.proofs.Common.{◌≡◌, ℕ, ℤ, true, cond, List, Ok, ap, ◌∙◌}
-use Rattle.std.specs.List.{list_any}
-use Rattle.grid_units.specs.Numbers.{parse_decimal, parse_zero_filled}
-use Rattle.drill_lines.specs.declared.command.Settings.{Settings}
-use Rattle.drill_lines.specs.Tools.{is_point}
-use Rattle.drill_lines.specs.HoleLines.{format_in, zeros_in, coordinate_of}
+use Rattle.drill_lines.proofs.Common.{◌≡◌, ℕ, ℤ, true, cond, List, Ok, ap, ◌∙◌, list_any, parse_decimal, parse_zero_filled, Settings, is_point, format_in, zeros_in}
+use Rattle.drill_lines.specs.HoleLines.{coordinate_of}
 
 -- a run with a point is read as a decimal, whatever the settings
 pub pointed_coordinate : (settings : Settings) (run : List ℕ) (v : ℤ) → list_any is_point run ≡ true → parse_decimal run ≡ Ok v → coordinate_of settings run ≡ Ok v

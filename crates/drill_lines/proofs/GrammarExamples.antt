@@ -1,15 +1,10 @@
 -- Examples of the grammar: these lines are written for these commands.
-use Rattle.std.proofs.Common.{◌≡◌, [], ◌∷◌, pos, None, Some, refl, sym, subst, arith, lit≤}
-use Rattle.std.specs.Prelude.{codes}
+use Rattle.drill_lines.proofs.Common.{◌≡◌, [], ◌∷◌, None, Some, refl, sym, subst, arith, lit≤, codes, Millimetre, Trailing, Settings, Comment, Start, UnitLine, Tool, Pick, Hit, Slot, fixed_lines, IsPointText, IsLine}
+use Rattle.std.proofs.Common.{pos}
 use Rattle.std.specs.List.{Contains}
-use Rattle.grid_units.specs.declared.lengths.Unit.TheVariants.{Millimetre}
-use Rattle.grid_units.specs.declared.zero_filling.Zeros.TheVariants.{Trailing}
 use Rattle.grid_units.specs.Numbers.{parse_decimal}
 use Rattle.drill_lines.specs.declared.command.Part.TheVariants as part
-use Rattle.drill_lines.specs.declared.command.Settings.{Settings}
-use Rattle.drill_lines.specs.declared.command.DrillCommand.TheVariants.{Comment, Start, UnitLine, Tool, Pick, Hit, Slot}
 use Rattle.drill_lines.specs.HoleLines.{coordinate_of}
-use Rattle.drill_lines.specs.Grammar.{fixed_lines, IsPointText, IsLine}
 
 -- `M48` before the header begins it
 start : (s : Settings) → s.part ≡ part.Before → IsLine s (codes "M48") (Some Start)

@@ -1,3 +1,4 @@
+pub mod Common
 pub mod TrimmedLemmas
 pub mod Rows
 pub mod Runs

@@ -1,22 +1,10 @@
 -- What a line spells is sayable, since the grammar writes it.
-use Rattle.std.proofs.Common.{◌≡◌, ◌≢◌, ℕ, ◌≤◌, true, false, not, ◌||◌, ◌&&◌, eqb, List, [], ◌∷◌, length, Option, Some, None, Ok, Contains, refl, sym, ap, ◌∙◌, arith}
+use Rattle.drill_lines.proofs.Common.{◌≡◌, ◌≢◌, ℕ, ◌≤◌, true, false, not, ◌||◌, ◌&&◌, eqb, List, [], ◌∷◌, length, Option, Some, None, Ok, refl, sym, ap, ◌∙◌, arith, list_all, list_any, AllByRecursion, length-append, All-contains, All-from_recursion, list_all-append, le-leb, eq-eqb, Zeros, both_true, Part, Settings, DrillCommand, Comment, UnitLine, Tool, Pick, Hit, Slot, without_end_blanks, meaning, fixed_lines, zeros_words, IsLine, can_give_zeros, is_comment_text, is_sayable}
+use Rattle.std.proofs.Common.{Contains}
 use Rattle.std.specs.Prelude.{IfSome}
-use Rattle.std.specs.List.{list_all, list_any, AllByRecursion}
-use Rattle.std.proofs.lemmas.List.{length-append}
-use Rattle.std.proofs.lemmas.List.Elements.{All-contains, All-from_recursion}
-use Rattle.std.proofs.lemmas.List.Folds.{list_all-append}
-use Rattle.std.proofs.lemmas.Bool.{le-leb, lt-ltb, eq-eqb}
-use Rattle.grid_units.specs.declared.zero_filling.Zeros.{Zeros}
-use Rattle.grid_units.proofs.BoolLemmas.{both_true, not_true}
-use Rattle.drill_lines.specs.declared.command.Part.{Part}
+use Rattle.std.proofs.lemmas.Bool.{lt-ltb}
+use Rattle.grid_units.proofs.BoolLemmas.{not_true}
 use Rattle.drill_lines.specs.declared.command.Part.TheVariants as part
-use Rattle.drill_lines.specs.declared.command.Settings.{Settings}
-use Rattle.drill_lines.specs.declared.command.DrillCommand.{DrillCommand}
-use Rattle.drill_lines.specs.declared.command.DrillCommand.TheVariants.{Comment, UnitLine, Tool, Pick, Hit, Slot}
-use Rattle.drill_lines.specs.Lines.{without_end_blanks}
-use Rattle.drill_lines.specs.Meaning.{meaning}
-use Rattle.drill_lines.specs.Grammar.{fixed_lines, zeros_words, IsLine}
-use Rattle.drill_lines.specs.Writing.{can_give_zeros, is_comment_text, is_sayable}
 use Rattle.drill_lines.proofs.TrimmedLemmas.{trimmed_twice, trimmed_front}
 use Rattle.drill_lines.proofs.Written.{answers_are_written}
 

@@ -1,34 +1,26 @@
 -- What a line spells in the wide profile, by how far a route has come: its four lines spell a slot, and every other line what it does by itself.
-use Rattle.std.proofs.Common.{◌≡◌, ℕ, Bool, true, false, cond, ◌&&◌, ◌||◌, ◌⊎◌, inl, inr, List, [], ◌∷◌, ◌++◌, Option, None, Some, is_some, unwrap_or, Result, Ok, Err, IfOk, refl, sym, ap, subst, ◌∙◌}
-use Rattle.std.specs.Prelude.{codes, option_and_then}
-use Rattle.std.specs.Option.{option_or, option_map}
-use Rattle.std.specs.Str.{bytes_eq}
-use Rattle.grid_units.specs.declared.fault.Reason.{Reason}
-use Rattle.grid_units.specs.declared.fault.Reason.TheVariants.{BadLine, Routed}
+use Rattle.drill_lines.proofs.Common.{◌≡◌, ℕ, Bool, true, false, cond, ◌&&◌, ◌||◌, ◌⊎◌, inl, inr, List, [], ◌∷◌, ◌++◌, Option, None, Some, is_some, Result, Ok, Err, IfOk, refl, sym, ap, subst, ◌∙◌, codes, option_map, bytes_eq, Reason, BadLine, ◌>>=◌, RowOf, strip_prefix, Coordinates, Part, Settings, DrillCommand, Slot, Finish, Wide, IsPointText, meaning, ReadsLine}
+use Rattle.std.proofs.Common.{unwrap_or}
+use Rattle.std.specs.Prelude.{option_and_then}
+use Rattle.std.specs.Option.{option_or}
+use Rattle.grid_units.specs.declared.fault.Reason.TheVariants.{Routed}
 use Rattle.grid_units.specs.declared.item_fail.ItemFail.{ItemFail}
 use Rattle.grid_units.specs.declared.item_fail.ItemFail.TheVariants as stops
-use Rattle.grid_units.specs.Results.{◌>>=◌, Gives, IsRefusedAs}
-use Rattle.grid_units.specs.Rows.{RowOf, strip_prefix}
+use Rattle.grid_units.specs.Results.{Gives, IsRefusedAs}
 use Rattle.grid_units.proofs.LookbackLemmas.{last_set-more, last_or-more}
-use Rattle.drill_lines.specs.declared.command.Coordinates.{Coordinates}
-use Rattle.drill_lines.specs.declared.command.Part.{Part}
 use Rattle.drill_lines.specs.declared.command.Part.TheVariants as part
-use Rattle.drill_lines.specs.declared.command.Settings.{Settings}
-use Rattle.drill_lines.specs.declared.command.DrillCommand.{DrillCommand}
-use Rattle.drill_lines.specs.declared.command.DrillCommand.TheVariants.{Slot, Finish}
 use Rattle.grid_units.specs.declared.profile.Profile.{Profile}
-use Rattle.grid_units.specs.declared.profile.Profile.TheVariants.{Strict, Wide}
+use Rattle.grid_units.specs.declared.profile.Profile.TheVariants.{Strict}
 use Rattle.drill_lines.specs.declared.line_reader.LineReader.{LineReader}
 use Rattle.drill_lines.specs.declared.route.Machine.{Machine}
 use Rattle.drill_lines.specs.declared.route.Machine.TheVariants as machine
 use Rattle.drill_lines.specs.declared.route.Route.{Route}
 use Rattle.drill_lines.specs.declared.route.Route.TheVariants as route
-use Rattle.drill_lines.specs.Grammar.{IsPointText}
 use Rattle.drill_lines.specs.HoleLines.{point_line}
-use Rattle.drill_lines.specs.Meaning.{Meaning, lines_before, common_lines, header_ends, body_prefixes, line_in, meaning}
+use Rattle.drill_lines.specs.Meaning.{Meaning, lines_before, common_lines, header_ends, body_prefixes, line_in}
 use Rattle.drill_lines.specs.Routes.{starts, lowers, cuts, raises, routed_point, route_row, point_read, last_line, last_point, machine_set, machine_after, slot_between, fourth_line, part_row, says_nothing, may_stand, wide_row, is_hole, is_routing, unless_routing, other_line, wide_meaning}
 use Rattle.drill_lines.specs.Inner.RouteSteps.{Step, second_step, third_step, fourth_step, part_step, wide_step, other_step, route_step, IsFree, IsRouteAfter}
-use Rattle.drill_lines.specs.LineReading.{IsRouteIn, HasReadLines, IsLater, ReadsLine}
+use Rattle.drill_lines.specs.LineReading.{IsRouteIn, HasReadLines, IsLater}
 use Rattle.drill_lines.proofs.CutLemmas.{bytes_are, begins_so}
 use Rattle.drill_lines.proofs.Rows.{ok_is}
 use Rattle.drill_lines.proofs.Answered.{read_in_part, means, point_answered}

@@ -1,11 +1,6 @@
 -- What holds of each row of a table holds of the first that fits.
-use Rattle.std.proofs.Common.{◌≡◌, ℕ, Bool, true, false, cond, List, [], ◌∷◌, ◌++◌, length, take, Option, None, Some, Result, Ok, Err, IfOk, refl, subst}
-use Rattle.std.specs.List.{AllByRecursion}
-use Rattle.std.specs.Option.{option_map}
-use Rattle.std.specs.Str.{bytes_eq}
-use Rattle.grid_units.specs.declared.fault.Reason.{Reason}
-use Rattle.grid_units.specs.Results.{◌>>=◌}
-use Rattle.grid_units.specs.Rows.{RowOf, first_match_or, strip_prefix, literal_row, prefix_row}
+use Rattle.drill_lines.proofs.Common.{◌≡◌, ℕ, Bool, true, false, cond, List, [], ◌∷◌, ◌++◌, length, take, Option, None, Some, Result, Ok, Err, IfOk, refl, subst, AllByRecursion, option_map, bytes_eq, Reason, ◌>>=◌, RowOf, first_match_or, strip_prefix, literal_row}
+use Rattle.grid_units.specs.Rows.{prefix_row}
 use Rattle.drill_lines.proofs.CutLemmas.{bytes_are, begins_so}
 
 -- what a row says has this property, if the row fits

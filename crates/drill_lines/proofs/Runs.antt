@@ -1,18 +1,11 @@
 -- Runs of a line: digits, numbers, and what follows them.
-use Rattle.std.proofs.Common.{◌≡◌, ℕ, zero, suc, ◌<◌, ◌≤◌, Bool, true, false, cond, not, ◌||◌, ◌&&◌, ◌/◌, ◌%◌, ◌^◌, eqb, List, [], ◌∷◌, ◌++◌, length, ℤ, Ok, refl, ap, ◌∙◌, arith, replicate, lit<, lit≤}
-use Rattle.std.specs.Prelude.{unsigned_abs, decimal}
-use Rattle.std.specs.List.{list_all, list_any}
-use Rattle.std.proofs.lemmas.List.{length-append}
-use Rattle.std.proofs.lemmas.Bool.Decides.{nat_tests}
-use Rattle.std.proofs.lemmas.Fmt.{length-decimal-le}
+use Rattle.drill_lines.proofs.Common.{◌≡◌, ℕ, zero, suc, ◌<◌, ◌≤◌, Bool, true, false, cond, not, ◌||◌, ◌&&◌, eqb, List, [], ◌∷◌, ◌++◌, length, ℤ, Ok, refl, ap, ◌∙◌, arith, replicate, lit<, lit≤, decimal, list_all, list_any, length-append, nat_tests, length-decimal-le, is_digit, is_number_char, parse_decimal, spells_decimal, digit_number, is_blank, without_end_blanks, is_point, and_true, both_true, list_all_weaker, list_all_append}
+use Rattle.std.proofs.Common.{◌/◌, ◌%◌, ◌^◌}
+use Rattle.std.specs.Prelude.{unsigned_abs}
 use Rattle.grid_units.proofs.TrailingZeros.{length-places}
-use Rattle.grid_units.specs.Numbers.{is_digit, is_number_char, parse_decimal, max_units}
+use Rattle.grid_units.specs.Numbers.{max_units}
 use Rattle.grid_units.specs.Spellings.{minus, decimals, fraction_text_or_zero, spelling_with_point, places}
-use Rattle.grid_units.proofs.SpellingsLemmas.{spells_decimal, digits-places, trims, pointed_reads, digit_number, minus_numbers, minus_short}
-use Rattle.drill_lines.specs.Lines.{is_blank, without_end_blanks}
-use Rattle.drill_lines.specs.Tools.{is_point}
-use Rattle.grid_units.proofs.BoolLemmas.{and_true, both_true}
-use Rattle.grid_units.proofs.ListLemmas.{list_all_weaker, list_all_append}
+use Rattle.grid_units.proofs.SpellingsLemmas.{digits-places, trims, pointed_reads, minus_numbers, minus_short}
 
 pub or_right : (a b : Bool) → b ≡ true → (a || b) ≡ true
 or_right true b h = refl

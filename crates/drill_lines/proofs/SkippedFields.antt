@@ -1,14 +1,7 @@
 -- The fields of a tool that are not read, as the grammar and as the rows say it.
-use Rattle.std.proofs.Common.{◌≡◌, ℕ, ◌+◌, Bool, true, false, cond, ◌||◌, eqb, List, [], ◌∷◌, ◌++◌, refl, sym, ap, ◌∙◌, arith}
-use Rattle.std.specs.Prelude.{codes, count_by}
-use Rattle.std.specs.List.{list_all, list_any, prefix_len}
-use Rattle.std.proofs.lemmas.Bool.Decides.{nat_tests}
-use Rattle.std.proofs.lemmas.List.{append-nil}
+use Rattle.drill_lines.proofs.Common.{◌≡◌, ℕ, ◌+◌, Bool, true, false, cond, ◌||◌, eqb, List, [], ◌∷◌, ◌++◌, refl, sym, ap, ◌∙◌, arith, codes, count_by, list_all, list_any, prefix_len, nat_tests, append-nil, is_digit, is_number_char, both_true, list_all_weaker, is_diameter_letter, is_tool_letter, is_skipped_letter, begins_with}
 use Rattle.std.proofs.lemmas.List.Sums.{sum_by-cons}
-use Rattle.grid_units.specs.Numbers.{is_digit, is_number_char}
-use Rattle.grid_units.proofs.BoolLemmas.{both_true, or_is_false}
-use Rattle.grid_units.proofs.ListLemmas.{list_all_weaker}
-use Rattle.drill_lines.specs.Tools.{is_diameter_letter, is_tool_letter, is_skipped_letter, begins_with}
+use Rattle.grid_units.proofs.BoolLemmas.{or_is_false}
 use Rattle.drill_lines.specs.Grammar.{AreSkipped}
 
 -- a letter of a tool, or a number character

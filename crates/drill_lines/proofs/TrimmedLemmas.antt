@@ -1,7 +1,5 @@
 -- The blanks at the end of a line.
-use Rattle.std.proofs.Common.{◌≡◌, ℕ, Bool, true, false, cond, eqb, ◌&&◌, List, [], ◌∷◌, ◌++◌, length, refl, ap, ◌∙◌, arith}
-use Rattle.std.proofs.lemmas.List.{length-append}
-use Rattle.drill_lines.specs.Lines.{is_blank, without_end_blanks}
+use Rattle.drill_lines.proofs.Common.{◌≡◌, ℕ, Bool, true, false, cond, eqb, ◌&&◌, List, [], ◌∷◌, ◌++◌, length, refl, ap, ◌∙◌, arith, length-append, is_blank, without_end_blanks}
 use Rattle.grid_units.proofs.TrailingZeros.{keeps}
 
 -- a blank at the end is dropped

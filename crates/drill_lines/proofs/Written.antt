@@ -1,24 +1,14 @@
 -- What the rows answer for a line is so written.
-use Rattle.std.proofs.Common.{◌≡◌, ◌≢◌, ℕ, Bool, true, false, cond, ◌&&◌, eqb, List, [], ◌∷◌, ◌++◌, Option, Some, None, Result, Ok, Err, IfOk, refl, sym, ap, subst, arith}
-use Rattle.std.specs.Prelude.{codes}
-use Rattle.std.specs.List.{Contains, AllByRecursion}
-use Rattle.std.specs.Option.{option_map}
-use Rattle.std.proofs.lemmas.Bool.{eqb-true}
+use Rattle.drill_lines.proofs.Common.{◌≡◌, ◌≢◌, ℕ, Bool, true, false, cond, ◌&&◌, eqb, List, [], ◌∷◌, ◌++◌, Option, Some, None, Result, Ok, Err, IfOk, refl, sym, ap, subst, arith, codes, AllByRecursion, option_map, eqb-true, Reason, BadLine, Inch, Millimetre, first_match_or, strip_prefix, literal_row, Part, Settings, DrillCommand, Comment, Start, HeaderEnd, UnitCode, Finish, runs_of, has_run, one_command, begins_comment, fixed_lines, IsLine}
+use Rattle.std.specs.List.{Contains}
 use Rattle.std.proofs.lemmas.List.Elements.{Contains-append_right}
-use Rattle.grid_units.specs.declared.fault.Reason.{Reason}
-use Rattle.grid_units.specs.declared.fault.Reason.TheVariants.{OldFormat, BadLine}
-use Rattle.grid_units.specs.declared.lengths.Unit.TheVariants.{Inch, Millimetre}
-use Rattle.grid_units.specs.Rows.{first_match_or, strip_prefix, literal_row}
-use Rattle.drill_lines.specs.declared.command.Part.{Part}
+use Rattle.grid_units.specs.declared.fault.Reason.TheVariants.{OldFormat}
 use Rattle.drill_lines.specs.declared.command.Part.TheVariants as part
-use Rattle.drill_lines.specs.declared.command.Settings.{Settings}
-use Rattle.drill_lines.specs.declared.command.DrillCommand.{DrillCommand}
-use Rattle.drill_lines.specs.declared.command.DrillCommand.TheVariants.{Comment, Start, HeaderEnd, UnitCode, Finish}
 use Rattle.drill_lines.specs.Header.{unit_line}
 use Rattle.drill_lines.specs.Tools.{tool_line, pick_line}
-use Rattle.drill_lines.specs.HoleLines.{runs_of, has_run, hole_line}
-use Rattle.drill_lines.specs.Meaning.{one_command, lines_before, common_lines, common_rows, header_ends, header_rows, hole_row, body_prefixes, body_rows, begins_comment, line_in, meaning}
-use Rattle.drill_lines.specs.Grammar.{shared_lines, fixed_lines, IsLine}
+use Rattle.drill_lines.specs.HoleLines.{hole_line}
+use Rattle.drill_lines.specs.Meaning.{lines_before, common_lines, common_rows, header_ends, header_rows, hole_row, body_prefixes, body_rows, line_in, meaning}
+use Rattle.drill_lines.specs.Grammar.{shared_lines}
 use Rattle.drill_lines.specs.Laws.{AnswersAreWritten}
 use Rattle.drill_lines.proofs.Rows.{RowHas, first_match_has, beginning_has, literal_has, stripped_has, either_has, ok_is}
 use Rattle.drill_lines.proofs.WrittenFields.{SpellsOne, unit_spelled, pick_spelled, tool_spelled, hole_spelled}

@@ -1,32 +1,13 @@
 -- The lines of units, tools and points are written for the commands that they are read as.
-use Rattle.std.proofs.Common.{◌≡◌, ℕ, ◌≤◌, Bool, true, false, cond, ◌||◌, ◌&&◌, eqb, leb, List, [], ◌∷◌, ◌++◌, length, drop, ℤ, Option, Some, None, is_some, Result, Ok, IfOk, refl, sym, ap, subst, ◌∙◌, arith, append_assoc, replicate}
-use Rattle.std.specs.Prelude.{codes, take_while, count_by}
-use Rattle.std.specs.List.{Contains, list_all, list_any, prefix_len, before_first, after_first}
-use Rattle.std.specs.Option.{option_map}
-use Rattle.std.proofs.lemmas.Bool.{leb-true, eqb-true}
-use Rattle.std.proofs.lemmas.List.{append-nil}
-use Rattle.std.proofs.lemmas.List.Folds.{length-prefix_len, list_all-append}
-use Rattle.grid_units.specs.declared.fault.Reason.{Reason}
-use Rattle.grid_units.specs.declared.fault.Reason.TheVariants.{BadLine, BadNumber}
+use Rattle.drill_lines.proofs.Common.{◌≡◌, ℕ, ◌≤◌, Bool, true, false, cond, ◌||◌, ◌&&◌, eqb, leb, List, [], ◌∷◌, ◌++◌, length, drop, ℤ, Option, Some, None, is_some, Result, Ok, IfOk, refl, sym, ap, subst, ◌∙◌, arith, append_assoc, replicate, codes, take_while, count_by, list_all, list_any, prefix_len, before_first, after_first, option_map, leb-true, eqb-true, append-nil, list_all-append, Reason, BadLine, BadNumber, Zeros, Leading, Trailing, ◌>>=◌, both, RowOf, first_match_or, strip_prefix, is_digit, is_digits, is_number_char, value, parse_decimal, and_true, both_true, Coordinates, Settings, DrillCommand, UnitLine, Tool, Pick, Hit, Slot, Digits, AreDigitCounts, is_zero, is_digit_count, digit_counts, pattern_from, is_point, is_diameter_letter, is_tool_letter, is_skipped_letter, begins_with, are_fields, field, Runs, runs_of, has_run, unit_words, zeros_words, IsNumber, IsCoordinate, IsPointText, IsLine, has_coordinate}
+use Rattle.std.specs.List.{Contains}
+use Rattle.std.proofs.lemmas.List.Folds.{length-prefix_len}
 use Rattle.grid_units.specs.declared.lengths.Unit.{Unit as Units}
-use Rattle.grid_units.specs.declared.zero_filling.Zeros.{Zeros}
-use Rattle.grid_units.specs.declared.zero_filling.Zeros.TheVariants.{Leading, Trailing}
-use Rattle.grid_units.specs.Results.{◌>>=◌, both}
-use Rattle.grid_units.specs.Rows.{RowOf, first_match_or, strip_prefix}
-use Rattle.grid_units.specs.Numbers.{is_digit, is_digits, is_number_char, value, parse_decimal}
 use Rattle.grid_units.proofs.ResultLemmas.{bind_ok, both_ok}
-use Rattle.grid_units.proofs.BoolLemmas.{and_true, both_true}
-use Rattle.drill_lines.specs.declared.command.Coordinates.{Coordinates}
 use Rattle.drill_lines.specs.declared.command.Part.TheVariants as part
-use Rattle.drill_lines.specs.declared.command.Settings.{Settings}
-use Rattle.drill_lines.specs.declared.command.DrillCommand.{DrillCommand}
-use Rattle.drill_lines.specs.declared.command.DrillCommand.TheVariants.{UnitLine, Tool, Pick, Hit, Slot}
-use Rattle.drill_lines.specs.Formats.{Digits, AreDigitCounts}
-use Rattle.drill_lines.specs.Header.{is_zero, is_digit_count, digit_counts, pattern, pattern_from, unit_format, unit_line}
-use Rattle.drill_lines.specs.Tools.{is_point, is_diameter_letter, is_tool_letter, is_skipped_letter, begins_with, are_fields, tool_number, diameter_of, tool_fields, tool_line, pick_fields, pick_line}
-use Rattle.drill_lines.specs.HoleLines.{coordinate_of, coordinate, field, Runs, runs_of, has_run, coordinates, point_line, slot_line, hole_from, hole_line}
-use Rattle.drill_lines.specs.Grammar.{unit_words, zeros_words, IsNumber, IsCoordinate, IsPointText, IsLine}
-use Rattle.drill_lines.specs.Writing.{has_coordinate}
+use Rattle.drill_lines.specs.Header.{pattern, unit_format, unit_line}
+use Rattle.drill_lines.specs.Tools.{tool_number, diameter_of, tool_fields, tool_line, pick_fields, pick_line}
+use Rattle.drill_lines.specs.HoleLines.{coordinate_of, coordinate, coordinates, point_line, slot_line, hole_from, hole_line}
 use Rattle.drill_lines.proofs.CutLemmas.{nested, run_and_rest, run_passes, rest_fails, before_more, after_more, before_here, after_here, passed}
 use Rattle.drill_lines.proofs.SkippedFields.{is_field_byte, is_skipped_byte, skipped_written, rest_written, count_more}
 use Rattle.drill_lines.proofs.Rows.{RowHas, first_match_has, stripped_has, either_has, ok_if, ok_bind}

@@ -124,6 +124,26 @@ impl Coordinates {
     }
 }
 
+/// What is said of a drill file's coordinates beside it, as a line of its header would say it: `INCH,TZ,00.0000`.
+#[derive(Clone, Copy, PartialEq, Eq)]
+pub struct CoordinateFormat {
+    pub unit: Unit,
+    /// The zeros that coordinates keep.
+    pub zeros: Option<Zeros>,
+    pub digits: Option<DrillFormat>,
+}
+
+impl CoordinateFormat {
+    ghost use Rattle.drill_lines.specs.declared.command.DrillCommand.TheVariants.{UnitLine};
+
+    /// The command of the line that says it.
+    pub fn command(self) -> DrillCommand
+        ensures { result ≡ UnitLine self.unit self.zeros self.digits }
+    {
+        DrillCommand::UnitLine(self.unit, self.zeros, self.digits)
+    }
+}
+
 /// What a line of a drill file commands.
 #[derive(PartialEq, Eq, Drop)]
 pub enum DrillCommand {

@@ -94,7 +94,7 @@ fn is_format_digit(byte: u8) -> bool
 }
 
 /// The format of `i:d`, two digits from 1 to 6.
-fn parse_format(text: &[u8]) -> Option<DrillFormat>
+pub fn read_digits(text: &[u8]) -> Option<DrillFormat>
     ensures { result ≡ parse_format text.now }
 {
     match text {
@@ -111,5 +111,5 @@ fn parse_format(text: &[u8]) -> Option<DrillFormat>
 pub fn file_format(text: &[u8]) -> Option<DrillFormat>
     ensures { result ≡ file_format text.now }
 {
-    parse_format(text.strip_prefix(b"FILE_FORMAT=".as_slice())?)
+    read_digits(text.strip_prefix(b"FILE_FORMAT=".as_slice())?)
 }

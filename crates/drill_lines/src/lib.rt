@@ -13,8 +13,10 @@ mod route;
 mod tools;
 
 pub use canonical::{is_sayable, write_line};
-pub use command::{Coordinates, DrillCommand, DrillFormat, OptionalDec, Part, Settings};
-pub use header::file_format;
+pub use command::{
+    CoordinateFormat, Coordinates, DrillCommand, DrillFormat, OptionalDec, Part, Settings,
+};
+pub use header::{file_format, read_digits};
 pub use hole_lines::coordinate_of;
 pub use laws::line_grammar;
 pub use line::read_line;

@@ -13,6 +13,7 @@ pub use Rattle.drill_lines.specs.RouteGrammar.{IsAlone, IsRoute}
 pub use Rattle.drill_lines.specs.Routes.{cuts, is_routing, last_line, lowers, machine_after, may_stand, meaning_in, other_line, part_row, says_nothing, starts, unless_routing}
 unfoldable pub use Rattle.drill_lines.specs.Routes.{wide_meaning}
 pub use Rattle.drill_lines.specs.Writing.{IsInRange, canonical, is_sayable}
+pub use Rattle.drill_lines.specs.declared.command.CoordinateFormat.{CoordinateFormat}
 pub use Rattle.drill_lines.specs.declared.command.Coordinates.{Coordinates}
 pub use Rattle.drill_lines.specs.declared.command.DrillCommand.{DrillCommand}
 pub use Rattle.drill_lines.specs.declared.command.DrillCommand.TheVariants.{Comment, Finish, HeaderEnd, Hit, Pick, Slot, Start, Tool, UnitLine}
@@ -30,7 +31,7 @@ pub use Rattle.drill_text.specs.Lines.{HasNoBreak, Splits, bytes_of, ended_line}
 pub use Rattle.drill_text.specs.Lookback.{StateView, diameter_set, ends_header, format_set, header, part_after, part_set, points_in, points_of, settings_after, state_after, tool_set, tools_at, tools_of, unit_set, x_set, y_set, zeros_set}
 pub use Rattle.drill_text.specs.Outcome.{DrillFile, commands_in, diameter_of_tool, diameters, file_of, kept_platings}
 pub use Rattle.drill_text.specs.Plating.{IsCalled, calls_plated, calls_unplated, contradiction_rule, is_plated, is_unsaid, lacks_plating, own_rule, plated_at, plating_after, plating_of_tool, plating_rule, plating_set, redefines_plating, rule_in, said_after, tool_made}
-pub use Rattle.drill_text.specs.Profiles.{Kind, Reads, ReadsAsBy, ReadsAsIn, ReadsBy, ReadsIn, Shows, ShowsBy, add_unless, checked_by, commands_by, commands_at_end, is_finish, place_after, place_after_count, plain, read_by, shown_by, shown_within, spelled_in, with_rest}
+pub use Rattle.drill_text.specs.Profiles.{Kind, Reads, ReadsAsBy, ReadsAsIn, ReadsBy, ReadsIn, Shows, ShowsBy, add_unless, checked_by, commands_by, commands_at_end, is_finish, place_after, place_after_count, plain, read_by, said_first, shown_by, shown_within, spelled_in, by_role, with_rest}
 unfoldable pub use Rattle.drill_text.specs.Profiles.{step_in}
 pub use Rattle.drill_text.specs.Rules.{applies, broken_rule, broken_rule_in, defines_alike, drills, first_broken_in, has_bad_size, has_no_tool, lacks_unit, max_holes, redefines_tool}
 unfoldable pub use Rattle.drill_text.specs.Rules.{first_broken, width_with}

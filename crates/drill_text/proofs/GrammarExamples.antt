@@ -6,7 +6,7 @@ abbrev text : List ℕ
 text = codes "M48\nMETRIC\nT1C0.4\n%\nT1\nX1.0Y2.0\nM30\n"
 
 -- it is a text of these commands, which drill one hole (`DrillingExamples`)
-written : IsText Strict text commands
+written : IsText Strict None text commands
 unfolding coordinate_of parse_decimal
 written = record {
   entries = map (λ line. line ∷ []) (lines_of text);

@@ -1,5 +1,5 @@
 -- A text that spells commands, and one that is written for them.
-use Rattle.drill_text.proofs.Common.{◌≡◌, ℕ, zero, suc, true, cond, ◌||◌, List, [], ◌∷◌, ◌++◌, map, Ok, refl, sym, ap, subst, ◌∙◌, arith, append_assoc, list_any, flat_map, AllByRecursion, Contains, onto_first, option_to_list, ne_eqb, ◌>>=◌, bind_ok, Strict, DrillCommand, without_end_blanks, meaning, written_is_answered, bytes_of, HasNoBreak, Splits, settings_after, is_finish, spelled_after, AreWithinLimit, SpellsText, lines_of, AreEntries, IsText, IsWithinLimits, SpelledIsWritten}
+use Rattle.drill_text.proofs.Common.{◌≡◌, ℕ, zero, suc, true, cond, ◌||◌, List, [], ◌∷◌, ◌++◌, map, Option, None, Ok, refl, sym, ap, subst, ◌∙◌, arith, append_assoc, list_any, flat_map, AllByRecursion, Contains, onto_first, option_to_list, ne_eqb, ◌>>=◌, bind_ok, Strict, CoordinateFormat, DrillCommand, without_end_blanks, meaning, written_is_answered, bytes_of, HasNoBreak, Splits, settings_after, is_finish, said_first, spelled_after, AreWithinLimit, SpellsText, lines_of, AreEntries, IsText, IsWithinLimits, SpelledIsWritten}
 use Rattle.grid_units.proofs.ListLemmas.{list_any_element}
 use Rattle.drill_lines.specs.declared.command.DrillCommand.TheVariants as command
 use Rattle.drill_lines.proofs.Runs.{or_right}
@@ -72,7 +72,7 @@ end_found (c ∷ cs) (suc k, less, e) = or_right (is_finish c) (list_any is_fini
 
 -- ---- texts
 
-spelled_written : (text : List ℕ) (commands : List DrillCommand) → SpellsText text commands → IsWithinLimits text × IsText Strict text commands
+spelled_written : (text : List ℕ) (commands : List DrillCommand) → SpellsText text commands → IsWithinLimits text × IsText Strict None text commands
 spelled_written text commands s =
     let lines : List (List ℕ) = s.lines ++ s.rest ∷ [] in
     let same : lines ≡ lines_of text = sym (same_lines text s.lines s.rest s.splits) in (
@@ -81,10 +81,10 @@ spelled_written text commands s =
     )
 
 -- what the lines of a text spell
-pub text_spells : (text : List ℕ) (commands : List DrillCommand) → IsText Strict text commands → spelled_after [] (lines_of text) ≡ Ok commands
-text_spells text commands t = subst (λ ls. spelled_after [] ls ≡ Ok commands) t.lines (entries_spell [] [] t.entries commands t.spells)
+pub text_spells : (format : Option CoordinateFormat) (text : List ℕ) (commands : List DrillCommand) → IsText Strict format text commands → spelled_after (said_first format) (lines_of text) ≡ Ok commands
+text_spells format text commands t = subst (λ ls. spelled_after (said_first format) ls ≡ Ok commands) t.lines (entries_spell [] (said_first format) t.entries commands t.spells)
 
-written_spelled : (text : List ℕ) (commands : List DrillCommand) → IsWithinLimits text → IsText Strict text commands → SpellsText text commands
+written_spelled : (text : List ℕ) (commands : List DrillCommand) → IsWithinLimits text → IsText Strict None text commands → SpellsText text commands
 written_spelled text commands within t =
     let c = cut text in
     let same = same_lines text c.lines c.rest c.splits in
@@ -94,7 +94,7 @@ written_spelled text commands within t =
       splits = c.splits;
       within = within.0;
       short = subst AreWithinLimit same within.1;
-      spelling = subst (λ ls. spelled_after [] ls ≡ Ok commands) same (text_spells text commands t);
+      spelling = subst (λ ls. spelled_after [] ls ≡ Ok commands) same (text_spells None text commands t);
       ends = end_found commands t.ends;
     }
 

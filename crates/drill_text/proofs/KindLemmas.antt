@@ -1,8 +1,9 @@
 -- A file of each kind is read as one of the same commands whose role is believed, but for the rule that the kind has beside the others.
-use Rattle.drill_text.proofs.Common.{◌≡◌, ℕ, suc, Bool, true, false, cond, ltb, ◌||◌, List, [], ◌∷◌, ◌++◌, length, map, Option, None, Some, Ok, Err, refl, sym, ap, subst, ◌∙◌, append_assoc, cons_option, filter_map, list_any, option_map, option_or, option_to_list, append-nil, line_limit, IsLegal, violation_at, with_prefixes_from, ◌>>=◌, with_place, Profile, Reason, PlatingConflict, TooLong, violations-more, bind_ok, without_end_blanks, meaning_in, DrillCommand, bytes_of, settings_after, calls_plated, contradiction_rule, own_rule, rule_in, PlatingKind, Kind, ReadsBy, ReadsIn, add_unless, checked_by, commands_by, plain, spelled_in, step_in, with_rest, broken_rule_in}
+use Rattle.drill_text.proofs.Common.{◌≡◌, ℕ, suc, Bool, true, false, cond, ltb, ◌||◌, List, [], ◌∷◌, ◌++◌, length, map, Option, None, Some, Ok, Err, refl, sym, ap, subst, ◌∙◌, append_assoc, cons_option, filter_map, list_any, option_map, option_or, option_to_list, append-nil, line_limit, IsLegal, violation_at, with_prefixes_from, ◌>>=◌, with_place, Profile, Reason, PlatingConflict, TooLong, violations-more, bind_ok, without_end_blanks, meaning_in, DrillCommand, bytes_of, settings_after, calls_plated, contradiction_rule, own_rule, rule_in, PlatingKind, Kind, ReadsBy, add_unless, checked_by, commands_by, said_first, spelled_in, by_role, step_in, with_rest, broken_rule_in}
 use Rattle.drill_text.specs.MixedLaws.{KindsReadTheSame, UncontradictedIsLegal}
 use Rattle.drill_text.proofs.PlatingLemmas.{rules_are}
 use Rattle.drill_text.proofs.ProfileLemmas.{at_ok, ending, guarded, read_alike}
+use Rattle.drill_text.proofs.SaidFirst.{said_is_own}
 use Rattle.drill_text.proofs.SpellsTextLemmas.{judged_ok, last_keeps, legal_parts, legal_start}
 
 -- ---- one command
@@ -36,9 +37,12 @@ module _ (kind : Kind) where
   abbrev own : List DrillCommand → DrillCommand → Option Reason
   own = own_rule kind.plating
 
+  abbrev bare : Kind
+  bare = by_role kind.profile kind.format
+
   -- ---- one line
 
-  step_same : (earlier : List (List ℕ)) (line : List ℕ) (before new : List DrillCommand) → step_in kind earlier before line ≡ Ok new → (step_in (plain kind.profile) earlier before line ≡ Ok new) × (IsLegal own before → IsLegal own new)
+  step_same : (earlier : List (List ℕ)) (line : List ℕ) (before new : List DrillCommand) → step_in kind earlier before line ≡ Ok new → (step_in bare earlier before line ≡ Ok new) × (IsLegal own before → IsLegal own new)
   unfolding step_in
   step_same earlier line before new e =
       let spelt = meaning_in kind.profile (map without_end_blanks earlier) (settings_after before) (without_end_blanks line) in
@@ -47,7 +51,7 @@ module _ (kind : Kind) where
       let j = judged_same kind.profile kind.plating before b.0 new b.2 in
       (ap (λ t. cond t (Err TooLong) (spelt >>= checked_by (broken_rule_in kind.profile) before)) g.0 ∙ (ap (λ m. m >>= checked_by (broken_rule_in kind.profile) before) b.1 ∙ j.0), j.1)
 
-  step_back : (earlier : List (List ℕ)) (line : List ℕ) (before new : List DrillCommand) → step_in (plain kind.profile) earlier before line ≡ Ok new → IsLegal own new → step_in kind earlier before line ≡ Ok new
+  step_back : (earlier : List (List ℕ)) (line : List ℕ) (before new : List DrillCommand) → step_in bare earlier before line ≡ Ok new → IsLegal own new → step_in kind earlier before line ≡ Ok new
   unfolding step_in
   step_back earlier line before new e legal =
       let spelt = meaning_in kind.profile (map without_end_blanks earlier) (settings_after before) (without_end_blanks line) in
@@ -56,7 +60,7 @@ module _ (kind : Kind) where
       ap (λ t. cond t (Err TooLong) (spelt >>= checked_by (rule_in kind.profile kind.plating) before)) g.0 ∙ (ap (λ m. m >>= checked_by (rule_in kind.profile kind.plating) before) b.1 ∙ judged_back kind.profile kind.plating before b.0 new b.2 legal)
 
   -- what a line leaves begins with what stood before it
-  step_more : (earlier : List (List ℕ)) (line : List ℕ) (before new : List DrillCommand) → step_in (plain kind.profile) earlier before line ≡ Ok new → (more : List DrillCommand) × (before ++ more ≡ new)
+  step_more : (earlier : List (List ℕ)) (line : List ℕ) (before new : List DrillCommand) → step_in bare earlier before line ≡ Ok new → (more : List DrillCommand) × (before ++ more ≡ new)
   unfolding step_in
   step_more earlier line before new e =
       let spelt = meaning_in kind.profile (map without_end_blanks earlier) (settings_after before) (without_end_blanks line) in
@@ -64,72 +68,72 @@ module _ (kind : Kind) where
       let b = bind_ok spelt (checked_by (broken_rule_in kind.profile) before) new g.1 in
       (option_to_list b.0, (judged_ok kind.profile before b.0 new b.2).0)
 
-  line_same : (earlier : List (List ℕ)) (line : List ℕ) (before new : List DrillCommand) → spelled_in kind earlier line before ≡ Ok new → (spelled_in (plain kind.profile) earlier line before ≡ Ok new) × (IsLegal own before → IsLegal own new)
+  line_same : (earlier : List (List ℕ)) (line : List ℕ) (before new : List DrillCommand) → spelled_in kind earlier line before ≡ Ok new → (spelled_in bare earlier line before ≡ Ok new) × (IsLegal own before → IsLegal own new)
   line_same earlier line before new e =
       let k = step_same earlier line before new (at_ok (suc (length earlier)) (length (bytes_of earlier)) (step_in kind earlier before line) new e) in
       (ap (with_place (suc (length earlier)) (length (bytes_of earlier))) k.0, k.1)
 
-  line_back : (earlier : List (List ℕ)) (line : List ℕ) (before new : List DrillCommand) → spelled_in (plain kind.profile) earlier line before ≡ Ok new → IsLegal own new → spelled_in kind earlier line before ≡ Ok new
+  line_back : (earlier : List (List ℕ)) (line : List ℕ) (before new : List DrillCommand) → spelled_in bare earlier line before ≡ Ok new → IsLegal own new → spelled_in kind earlier line before ≡ Ok new
   line_back earlier line before new e legal =
-      ap (with_place (suc (length earlier)) (length (bytes_of earlier))) (step_back earlier line before new (at_ok (suc (length earlier)) (length (bytes_of earlier)) (step_in (plain kind.profile) earlier before line) new e) legal)
+      ap (with_place (suc (length earlier)) (length (bytes_of earlier))) (step_back earlier line before new (at_ok (suc (length earlier)) (length (bytes_of earlier)) (step_in bare earlier before line) new e) legal)
 
   -- ---- lines
 
-  lines_same : (earlier lines : List (List ℕ)) (before new : List DrillCommand) → commands_by kind earlier lines before ≡ Ok new → (commands_by (plain kind.profile) earlier lines before ≡ Ok new) × (IsLegal own before → IsLegal own new)
+  lines_same : (earlier lines : List (List ℕ)) (before new : List DrillCommand) → commands_by kind earlier lines before ≡ Ok new → (commands_by bare earlier lines before ≡ Ok new) × (IsLegal own before → IsLegal own new)
   lines_same earlier [] before new e = let same : before ≡ new = cc in (e, λ legal. subst (IsLegal own) same legal)
   lines_same earlier (line ∷ lines) before new e =
       let next : List (List ℕ) = earlier ++ line ∷ [] in
       let b = bind_ok (spelled_in kind earlier line before) (commands_by kind next lines) new e in
       let first = line_same earlier line before b.0 b.1 in
       let rest = lines_same next lines b.0 new b.2 in
-      (ap (λ r. r >>= commands_by (plain kind.profile) next lines) first.0 ∙ rest.0, λ legal. rest.1 (first.1 legal))
+      (ap (λ r. r >>= commands_by bare next lines) first.0 ∙ rest.0, λ legal. rest.1 (first.1 legal))
 
-  lines_more : (earlier lines : List (List ℕ)) (before new : List DrillCommand) → commands_by (plain kind.profile) earlier lines before ≡ Ok new → (more : List DrillCommand) × (before ++ more ≡ new)
+  lines_more : (earlier lines : List (List ℕ)) (before new : List DrillCommand) → commands_by bare earlier lines before ≡ Ok new → (more : List DrillCommand) × (before ++ more ≡ new)
   lines_more earlier [] before new e = let same : before ≡ new = cc in ([], append-nil before ∙ same)
   lines_more earlier (line ∷ lines) before new e =
       let next : List (List ℕ) = earlier ++ line ∷ [] in
-      let b = bind_ok (spelled_in (plain kind.profile) earlier line before) (commands_by (plain kind.profile) next lines) new e in
-      let first = step_more earlier line before b.0 (at_ok (suc (length earlier)) (length (bytes_of earlier)) (step_in (plain kind.profile) earlier before line) b.0 b.1) in
+      let b = bind_ok (spelled_in bare earlier line before) (commands_by bare next lines) new e in
+      let first = step_more earlier line before b.0 (at_ok (suc (length earlier)) (length (bytes_of earlier)) (step_in bare earlier before line) b.0 b.1) in
       let rest = lines_more next lines b.0 new b.2 in
       (first.0 ++ rest.0, sym (append_assoc before first.0 rest.0) ∙ (ap (λ (l : List DrillCommand). l ++ rest.0) first.1 ∙ rest.1))
 
-  lines_back : (earlier lines : List (List ℕ)) (before new : List DrillCommand) → commands_by (plain kind.profile) earlier lines before ≡ Ok new → IsLegal own new → commands_by kind earlier lines before ≡ Ok new
+  lines_back : (earlier lines : List (List ℕ)) (before new : List DrillCommand) → commands_by bare earlier lines before ≡ Ok new → IsLegal own new → commands_by kind earlier lines before ≡ Ok new
   lines_back earlier [] before new e legal = e
   lines_back earlier (line ∷ lines) before new e legal =
       let next : List (List ℕ) = earlier ++ line ∷ [] in
-      let b = bind_ok (spelled_in (plain kind.profile) earlier line before) (commands_by (plain kind.profile) next lines) new e in
+      let b = bind_ok (spelled_in bare earlier line before) (commands_by bare next lines) new e in
       let more = lines_more next lines b.0 new b.2 in
       let now : IsLegal own b.0 = legal_start own b.0 more.0 (subst (IsLegal own) (sym more.1) legal) in
       ap (λ r. r >>= commands_by kind next lines) (line_back earlier line before b.0 b.1 now) ∙ lines_back next lines b.0 new b.2 legal
 
-  rest_same : (lines : List (List ℕ)) (rest : List ℕ) (before new : List DrillCommand) → with_rest kind lines rest before ≡ Ok new → (with_rest (plain kind.profile) lines rest before ≡ Ok new) × (IsLegal own before → IsLegal own new)
+  rest_same : (lines : List (List ℕ)) (rest : List ℕ) (before new : List DrillCommand) → with_rest kind lines rest before ≡ Ok new → (with_rest bare lines rest before ≡ Ok new) × (IsLegal own before → IsLegal own new)
   rest_same lines [] before new e = let same : before ≡ new = cc in (e, λ legal. subst (IsLegal own) same legal)
   rest_same lines (b ∷ bs) before new e = line_same lines (b ∷ bs) before new e
 
-  rest_more : (lines : List (List ℕ)) (rest : List ℕ) (before new : List DrillCommand) → with_rest (plain kind.profile) lines rest before ≡ Ok new → (more : List DrillCommand) × (before ++ more ≡ new)
+  rest_more : (lines : List (List ℕ)) (rest : List ℕ) (before new : List DrillCommand) → with_rest bare lines rest before ≡ Ok new → (more : List DrillCommand) × (before ++ more ≡ new)
   rest_more lines [] before new e = let same : before ≡ new = cc in ([], append-nil before ∙ same)
-  rest_more lines (b ∷ bs) before new e = step_more lines (b ∷ bs) before new (at_ok (suc (length lines)) (length (bytes_of lines)) (step_in (plain kind.profile) lines before (b ∷ bs)) new e)
+  rest_more lines (b ∷ bs) before new e = step_more lines (b ∷ bs) before new (at_ok (suc (length lines)) (length (bytes_of lines)) (step_in bare lines before (b ∷ bs)) new e)
 
-  rest_back : (lines : List (List ℕ)) (rest : List ℕ) (before new : List DrillCommand) → with_rest (plain kind.profile) lines rest before ≡ Ok new → IsLegal own new → with_rest kind lines rest before ≡ Ok new
+  rest_back : (lines : List (List ℕ)) (rest : List ℕ) (before new : List DrillCommand) → with_rest bare lines rest before ≡ Ok new → IsLegal own new → with_rest kind lines rest before ≡ Ok new
   rest_back lines [] before new e legal = e
   rest_back lines (b ∷ bs) before new e legal = line_back lines (b ∷ bs) before new e legal
 
 -- ---- texts
 
-kind_is_read : (kind : Kind) (text : List ℕ) (cs : List DrillCommand) → ReadsBy kind text (Ok cs) → ReadsIn kind.profile text (Ok cs) × IsLegal (own_rule kind.plating) cs
+kind_is_read : (kind : Kind) (text : List ℕ) (cs : List DrillCommand) → ReadsBy kind text (Ok cs) → ReadsBy (by_role kind.profile kind.format) text (Ok cs) × IsLegal (own_rule kind.plating) cs
 kind_is_read kind text cs r =
     let e = ending kind text cs r in
-    let all = lines_same kind [] e.lines [] e.first e.shown in
+    let all = lines_same kind [] e.lines (said_first kind.format) e.first e.shown in
     let last = rest_same kind e.lines e.rest e.first cs e.last in
-    (read_alike kind (plain kind.profile) text cs e all.0 last.0, last.1 (all.1 refl))
+    (read_alike kind (by_role kind.profile kind.format) text cs e all.0 last.0, last.1 (all.1 (said_is_own kind.plating kind.format)))
 
-read_is_kind : (kind : Kind) (text : List ℕ) (cs : List DrillCommand) → ReadsIn kind.profile text (Ok cs) × IsLegal (own_rule kind.plating) cs → ReadsBy kind text (Ok cs)
+read_is_kind : (kind : Kind) (text : List ℕ) (cs : List DrillCommand) → ReadsBy (by_role kind.profile kind.format) text (Ok cs) × IsLegal (own_rule kind.plating) cs → ReadsBy kind text (Ok cs)
 read_is_kind kind text cs (r, legal) =
     let rule = own_rule kind.plating in
-    let e = ending (plain kind.profile) text cs r in
+    let e = ending (by_role kind.profile kind.format) text cs r in
     let more = rest_more kind e.lines e.rest e.first cs e.last in
     let now : IsLegal rule e.first = legal_start rule e.first more.0 (subst (IsLegal rule) (sym more.1) legal) in
-    read_alike (plain kind.profile) kind text cs e (lines_back kind [] e.lines [] e.first e.shown now) (rest_back kind e.lines e.rest e.first cs e.last legal)
+    read_alike (by_role kind.profile kind.format) kind text cs e (lines_back kind [] e.lines (said_first kind.format) e.first e.shown now) (rest_back kind e.lines e.rest e.first cs e.last legal)
 
 pub kinds_read_the_same : KindsReadTheSame
 kinds_read_the_same kind text cs = (kind_is_read kind text cs, read_is_kind kind text cs)

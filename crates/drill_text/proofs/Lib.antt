@@ -1,4 +1,5 @@
 pub mod Common
+pub mod SaidFirst
 pub mod KindLemmas
 pub mod SpelledLemmas
 pub mod Lookbacks

@@ -1,5 +1,5 @@
 -- What lines and texts spell in a profile.
-use Rattle.drill_text.proofs.Common.{◌≡◌, ℕ, suc, ◌<◌, ◌≤◌, ◌⊎◌, inl, inr, Bool, true, false, cond, ltb, List, [], ◌∷◌, ◌++◌, length, map, Option, Result, Ok, Err, refl, sym, ap, subst, ◌∙◌, append_assoc, list_any, append-nil, take_all, lt-ltb, le-ltb, ltb-true, ltb-false, Reason, TooLong, Truncated, Fault, ◌>>=◌, fault, with_place, bind_ok, bind_err, bind_assoc, bind_cong, bind_Ok, guard_ok, guard_err, line_limit, text_limit, DrillCommand, without_end_blanks, meaning_in, bytes_of, Splits, settings_after, rule_in, Kind, ReadsBy, checked_by, commands_by, commands_at_end, is_finish, place_after, shown_by, spelled_in, step_in, with_rest}
+use Rattle.drill_text.proofs.Common.{◌≡◌, ℕ, suc, ◌<◌, ◌≤◌, ◌⊎◌, inl, inr, Bool, true, false, cond, ltb, List, [], ◌∷◌, ◌++◌, length, map, Option, Result, Ok, Err, refl, sym, ap, subst, ◌∙◌, append_assoc, list_any, append-nil, take_all, lt-ltb, le-ltb, ltb-true, ltb-false, Reason, TooLong, Truncated, Fault, ◌>>=◌, fault, with_place, bind_ok, bind_err, bind_assoc, bind_cong, bind_Ok, guard_ok, guard_err, line_limit, text_limit, DrillCommand, without_end_blanks, meaning_in, bytes_of, Splits, settings_after, rule_in, Kind, ReadsBy, checked_by, commands_by, commands_at_end, is_finish, place_after, said_first, shown_by, spelled_in, step_in, with_rest}
 
 -- ---- tests
 
@@ -40,27 +40,27 @@ commands_by-push kind earlier lines line before =
     commands_by-append kind earlier lines (line ∷ []) before
     ∙ bind_cong (commands_by kind earlier lines before) (commands_by kind (earlier ++ lines) (line ∷ [])) (spelled_in kind (earlier ++ lines) line) (λ commands. bind_Ok (spelled_in kind (earlier ++ lines) line commands))
 
-pub shown_by_ok : (kind : Kind) (lines : List (List ℕ)) (rest : List ℕ) (cs : List DrillCommand) → shown_by kind lines rest ≡ Ok cs → (commands_by kind [] lines [] ≡ Ok cs) × (length rest ≤ line_limit)
+pub shown_by_ok : (kind : Kind) (lines : List (List ℕ)) (rest : List ℕ) (cs : List DrillCommand) → shown_by kind lines rest ≡ Ok cs → (commands_by kind [] lines (said_first kind.format) ≡ Ok cs) × (length rest ≤ line_limit)
 unfolding checks_rest
 shown_by_ok kind lines rest cs e =
-    let b = bind_ok (commands_by kind [] lines []) (checks_rest lines rest) cs e in
+    let b = bind_ok (commands_by kind [] lines (said_first kind.format)) (checks_rest lines rest) cs e in
     let g = guard_ok (ltb line_limit (length rest)) (fault (suc (length lines)) (length (bytes_of lines)) TooLong) b.0 cs b.2 in
     (b.1 ∙ ap (λ (x : List DrillCommand). Ok x) g.1, ltb-false _ _ g.0)
 
-pub show_by_ok : (kind : Kind) (lines : List (List ℕ)) (rest : List ℕ) (cs : List DrillCommand) → commands_by kind [] lines [] ≡ Ok cs → length rest ≤ line_limit → shown_by kind lines rest ≡ Ok cs
+pub show_by_ok : (kind : Kind) (lines : List (List ℕ)) (rest : List ℕ) (cs : List DrillCommand) → commands_by kind [] lines (said_first kind.format) ≡ Ok cs → length rest ≤ line_limit → shown_by kind lines rest ≡ Ok cs
 show_by_ok kind lines rest cs e le = rw (e, le-ltb _ _ le) refl
 
-pub show_by_long : (kind : Kind) (lines : List (List ℕ)) (rest : List ℕ) (cs : List DrillCommand) → commands_by kind [] lines [] ≡ Ok cs → line_limit < length rest → shown_by kind lines rest ≡ Err (fault (suc (length lines)) (length (bytes_of lines)) TooLong)
+pub show_by_long : (kind : Kind) (lines : List (List ℕ)) (rest : List ℕ) (cs : List DrillCommand) → commands_by kind [] lines (said_first kind.format) ≡ Ok cs → line_limit < length rest → shown_by kind lines rest ≡ Err (fault (suc (length lines)) (length (bytes_of lines)) TooLong)
 show_by_long kind lines rest cs e lt = rw (e, lt-ltb _ _ lt) refl
 
-pub show_by_err : (kind : Kind) (lines : List (List ℕ)) (rest : List ℕ) (f : Fault) → commands_by kind [] lines [] ≡ Err f → shown_by kind lines rest ≡ Err f
+pub show_by_err : (kind : Kind) (lines : List (List ℕ)) (rest : List ℕ) (f : Fault) → commands_by kind [] lines (said_first kind.format) ≡ Err f → shown_by kind lines rest ≡ Err f
 show_by_err kind lines rest f e = rw e refl
 
 pub shown_by_err : (kind : Kind) (lines : List (List ℕ)) (rest : List ℕ) (f : Fault) → shown_by kind lines rest ≡ Err f
-    → (commands_by kind [] lines [] ≡ Err f) ⊎ ((cs : List DrillCommand) × (commands_by kind [] lines [] ≡ Ok cs) × (line_limit < length rest) × (fault (suc (length lines)) (length (bytes_of lines)) TooLong ≡ f))
+    → (commands_by kind [] lines (said_first kind.format) ≡ Err f) ⊎ ((cs : List DrillCommand) × (commands_by kind [] lines (said_first kind.format) ≡ Ok cs) × (line_limit < length rest) × (fault (suc (length lines)) (length (bytes_of lines)) TooLong ≡ f))
 unfolding checks_rest
 shown_by_err kind lines rest f e =
-    elim (bind_err (commands_by kind [] lines []) (checks_rest lines rest) f e) [
+    elim (bind_err (commands_by kind [] lines (said_first kind.format)) (checks_rest lines rest) f e) [
       | inl h ↦ inl h
       | inr h ↦ (let g = guard_err (ltb line_limit (length rest)) (fault (suc (length lines)) (length (bytes_of lines)) TooLong) f h.0 h.2 in inr (h.0, h.1, ltb-true _ _ g.0, g.1))
     ]
@@ -70,13 +70,13 @@ rest_shows place byte (Ok x) = refl
 rest_shows place byte (Err x) = refl
 
 -- the lines and one more, with nothing after it
-pub show_by_push : (kind : Kind) (lines : List (List ℕ)) (line : List ℕ) (cs : List DrillCommand) → commands_by kind [] lines [] ≡ Ok cs → shown_by kind (lines ++ line ∷ []) [] ≡ spelled_in kind lines line cs
+pub show_by_push : (kind : Kind) (lines : List (List ℕ)) (line : List ℕ) (cs : List DrillCommand) → commands_by kind [] lines (said_first kind.format) ≡ Ok cs → shown_by kind (lines ++ line ∷ []) [] ≡ spelled_in kind lines line cs
 show_by_push kind lines line cs e =
-    rest_shows (suc (length (lines ++ line ∷ []))) (length (bytes_of (lines ++ line ∷ []))) (commands_by kind [] (lines ++ line ∷ []) [])
-    ∙ (commands_by-push kind [] lines line [] ∙ ap (λ r. r >>= spelled_in kind lines line) e)
+    rest_shows (suc (length (lines ++ line ∷ []))) (length (bytes_of (lines ++ line ∷ []))) (commands_by kind [] (lines ++ line ∷ []) (said_first kind.format))
+    ∙ (commands_by-push kind [] lines line (said_first kind.format) ∙ ap (λ r. r >>= spelled_in kind lines line) e)
 
-pub show_by_push_err : (kind : Kind) (lines : List (List ℕ)) (line : List ℕ) (f : Fault) → commands_by kind [] lines [] ≡ Err f → shown_by kind (lines ++ line ∷ []) [] ≡ Err f
-show_by_push_err kind lines line f e = show_by_err kind (lines ++ line ∷ []) [] f (commands_by-push kind [] lines line [] ∙ ap (λ r. r >>= spelled_in kind lines line) e)
+pub show_by_push_err : (kind : Kind) (lines : List (List ℕ)) (line : List ℕ) (f : Fault) → commands_by kind [] lines (said_first kind.format) ≡ Err f → shown_by kind (lines ++ line ∷ []) [] ≡ Err f
+show_by_push_err kind lines line f e = show_by_err kind (lines ++ line ∷ []) [] f (commands_by-push kind [] lines line (said_first kind.format) ∙ ap (λ r. r >>= spelled_in kind lines line) e)
 
 -- a line that is too long is a fault
 pub too_long : (kind : Kind) (lines : List (List ℕ)) (line : List ℕ) (before : List DrillCommand) → line_limit < length line → spelled_in kind lines line before ≡ Err (fault (suc (length lines)) (length (bytes_of lines)) TooLong)
@@ -100,7 +100,7 @@ pub record Ending (kind : Kind) (text : List ℕ) (cs : List DrillCommand) : Typ
   pub rest : List ℕ
   pub first : List DrillCommand
   pub splits : Splits text lines rest
-  pub shown : commands_by kind [] lines [] ≡ Ok first
+  pub shown : commands_by kind [] lines (said_first kind.format) ≡ Ok first
   pub short : length rest ≤ line_limit
   pub within : length text ≤ text_limit
   pub last : with_rest kind lines rest first ≡ Ok cs
@@ -147,5 +147,5 @@ ended_so kind text cs e =
     }
 
 -- a text that ends alike in another kind of file is read as the same commands in it
-pub read_alike : (from to : Kind) (text : List ℕ) (cs : List DrillCommand) (e : Ending from text cs) → commands_by to [] e.lines [] ≡ Ok e.first → with_rest to e.lines e.rest e.first ≡ Ok cs → ReadsBy to text (Ok cs)
+pub read_alike : (from to : Kind) (text : List ℕ) (cs : List DrillCommand) (e : Ending from text cs) → commands_by to [] e.lines (said_first to.format) ≡ Ok e.first → with_rest to e.lines e.rest e.first ≡ Ok cs → ReadsBy to text (Ok cs)
 read_alike from to text cs e first last = ended_so to text cs (record { lines = e.lines; rest = e.rest; first = e.first; splits = e.splits; shown = first; short = e.short; within = e.within; last = last; ends = e.ends })

@@ -1,5 +1,5 @@
 -- The legal commands of a wide text drill in the body alone, and so they drill the holes that are listed of them.
-use Rattle.drill_text.proofs.Common.{◌≡◌, ℕ, true, List, [], ◌∷◌, ◌++◌, Option, None, Some, inl, inr, refl, sym, subst, ◌∙◌, append_assoc, option_to_list, Part, Settings, DrillCommand, Wide, without_end_blanks, IsAlone, Machine, machine_after, settings_after, part_after, drills, AreEntries, IsEntry, WideHolesAreDrilled, append-nil, map}
+use Rattle.drill_text.proofs.Common.{◌≡◌, ℕ, true, List, [], ◌∷◌, ◌++◌, Option, None, Some, inl, inr, refl, sym, subst, ◌∙◌, append_assoc, option_to_list, Part, Settings, CoordinateFormat, DrillCommand, Wide, without_end_blanks, IsAlone, Machine, machine_after, said_first, settings_after, part_after, drills, AreEntries, IsEntry, WideHolesAreDrilled, append-nil, map}
 use Rattle.drill_lines.specs.declared.command.Part.TheVariants as part
 use Rattle.drill_lines.specs.declared.command.DrillCommand.TheVariants as command
 use Rattle.drill_text.proofs.DrillingLemmas.{AreInBody, legal_are_drilled}
@@ -42,6 +42,10 @@ spelled_in_body earlier before (entry ∷ entries) commands h =
     (spelled_in_body (earlier ++ entry) (before ++ option_to_list h.0) entries commands h.2)
 
 pub wide_holes_are_drilled : WideHolesAreDrilled
-wide_holes_are_drilled text commands written legal =
-    let all = spelled_in_body [] [] written.entries commands written.spells in
-    legal_are_drilled Wide commands legal (subst (AreInBody part.Before) (sym all.whole) all.stands)
+wide_holes_are_drilled format text commands written legal =
+    let all = spelled_in_body [] (said_first format) written.entries commands written.spells in
+    legal_are_drilled Wide commands legal (subst (AreInBody part.Before) (sym all.whole) (after_said format all.more all.stands))
+  where
+    after_said : (format : Option CoordinateFormat) (more : List DrillCommand) → AreInBody (part_after (said_first format)) more → AreInBody part.Before (said_first format ++ more)
+    after_said None more h = h
+    after_said (Some f) more h = (λ e. absurd cc, h)

@@ -1,5 +1,5 @@
 -- A text of the wide profile, by its grammar, is read as its commands. By the grammar of each profile a text has one list of commands.
-use Rattle.drill_text.proofs.Common.{◌≡◌, ◌⊎◌, inl, inr, ℕ, suc, Bool, true, false, cond, List, [], ◌∷◌, ◌++◌, length, map, Option, None, Some, unwrap_or, Result, Ok, Err, refl, sym, ap, subst, ◌∙◌, arith, append_assoc, option_to_list, append-nil, BadLine, Reason, Routed, ◌>>=◌, fault, with_place, IsLegal, and_false, bind_ok, Coordinates, Machine, Part, Settings, DrillCommand, Slot, Strict, Wide, without_end_blanks, meaning, starts, lowers, cuts, last_line, is_routing, machine_after, part_row, says_nothing, unless_routing, other_line, wide_meaning, IsAlone, IsRoute, IsFree, written_is_answered, bytes_of, settings_after, broken_rule_in, commands_by, plain, spelled_in, with_rest, AreWithinLimit, spelled_after, AreEntries, IsText, lines_of, IsTextOfAtMostOne, WrittenIsRead}
+use Rattle.drill_text.proofs.Common.{◌≡◌, ◌⊎◌, inl, inr, ℕ, suc, Bool, true, false, cond, List, [], ◌∷◌, ◌++◌, length, map, Option, None, Some, unwrap_or, Result, Ok, Err, refl, sym, ap, subst, ◌∙◌, arith, append_assoc, option_to_list, append-nil, BadLine, Reason, Routed, ◌>>=◌, fault, with_place, IsLegal, and_false, bind_ok, CoordinateFormat, Coordinates, Machine, Part, Settings, DrillCommand, Slot, Strict, Wide, without_end_blanks, meaning, starts, lowers, cuts, last_line, is_routing, machine_after, part_row, says_nothing, unless_routing, other_line, wide_meaning, IsAlone, IsRoute, IsFree, written_is_answered, bytes_of, settings_after, broken_rule_in, commands_by, said_first, spelled_in, by_role, with_rest, AreWithinLimit, spelled_after, AreEntries, IsText, lines_of, IsTextOfAtMostOne, WrittenIsRead}
 use Rattle.drill_lines.specs.declared.command.Part.TheVariants as part
 use Rattle.drill_lines.proofs.RouteLemmas.{alone_read, early_end_read, empty_stands, meaning_by, old_read, route_read}
 use Rattle.drill_text.proofs.FirstFaults.{cut}
@@ -77,16 +77,16 @@ spelled_begins e before (line ∷ lines) cs h =
     let k = spelled_begins (e ++ line ∷ []) (before ++ option_to_list b.0) lines cs b.2 in
     (option_to_list b.0 ++ k.0, k.1 ∙ append_assoc before (option_to_list b.0) k.0)
 
-spelled_read : (e : List (List ℕ)) (before : List DrillCommand) (lines : List (List ℕ)) (cs : List DrillCommand) → AreWithinLimit lines → wide_spelled e before lines ≡ Ok cs → IsLegal (broken_rule_in Wide) cs → commands_by (plain Wide) e lines before ≡ Ok cs
+spelled_read : (format : Option CoordinateFormat) (e : List (List ℕ)) (before : List DrillCommand) (lines : List (List ℕ)) (cs : List DrillCommand) → AreWithinLimit lines → wide_spelled e before lines ≡ Ok cs → IsLegal (broken_rule_in Wide) cs → commands_by (by_role Wide format) e lines before ≡ Ok cs
 unfolding wide_spelled
-spelled_read e before [] cs short h legal = let same : before ≡ cs = cc in ap (λ (x : List DrillCommand). Ok x) same
-spelled_read e before (line ∷ lines) cs short h legal =
+spelled_read format e before [] cs short h legal = let same : before ≡ cs = cc in ap (λ (x : List DrillCommand). Ok x) same
+spelled_read format e before (line ∷ lines) cs short h legal =
     let b = bind_ok (wide_meaning (map without_end_blanks e) (settings_after before) (without_end_blanks line)) (λ c. wide_spelled (e ++ line ∷ []) (before ++ option_to_list c) lines) cs h in
     let now : List DrillCommand = before ++ option_to_list b.0 in
     let more = spelled_begins (e ++ line ∷ []) now lines cs b.2 in
     let kept = keeps_judged Wide before b.0 (legal_start (broken_rule_in Wide) now more.0 (subst (IsLegal (broken_rule_in Wide)) more.1 legal)) in
-    ap (λ r. r >>= commands_by (plain Wide) (e ++ line ∷ []) lines) (spelled_in_is (plain Wide) e line before (Ok b.0) short.0 b.1 ∙ ap (with_place (suc (length e)) (length (bytes_of e))) kept)
-    ∙ spelled_read (e ++ line ∷ []) now lines cs short.1 b.2 legal
+    ap (λ r. r >>= commands_by (by_role Wide format) (e ++ line ∷ []) lines) (spelled_in_is (by_role Wide format) e line before (Ok b.0) short.0 b.1 ∙ ap (with_place (suc (length e)) (length (bytes_of e))) kept)
+    ∙ spelled_read format (e ++ line ∷ []) now lines cs short.1 b.2 legal
 
 -- ---- the rest after the last LF
 
@@ -113,11 +113,11 @@ empty_spells e s = by (starts (last_line e)) (lowers (last_line e)) (cuts (last_
     by false false true a b c = inr (meaning_by s e [] false false true a b c)
     by false false false a b c = inl (meaning_by s e [] false false false a b c ∙ other (machine_after e))
 
-rest_read : (lines : List (List ℕ)) (rest : List ℕ) (before cs : List DrillCommand) → spelled_in (plain Wide) lines rest before ≡ Ok cs → with_rest (plain Wide) lines rest before ≡ Ok cs
-rest_read lines (b ∷ bs) before cs e = e
-rest_read lines [] before cs e = elim (empty_spells (map without_end_blanks lines) (settings_after before)) [
-  | inl h ↦ sym (spelled_in_is (plain Wide) lines [] before (Ok None) (omega arith) h) ∙ e
-  | inr h ↦ absurd (never (sym (spelled_in_is (plain Wide) lines [] before (Err Routed) (omega arith) h) ∙ e))
+rest_read : (format : Option CoordinateFormat) (lines : List (List ℕ)) (rest : List ℕ) (before cs : List DrillCommand) → spelled_in (by_role Wide format) lines rest before ≡ Ok cs → with_rest (by_role Wide format) lines rest before ≡ Ok cs
+rest_read format lines (b ∷ bs) before cs e = e
+rest_read format lines [] before cs e = elim (empty_spells (map without_end_blanks lines) (settings_after before)) [
+  | inl h ↦ sym (spelled_in_is (by_role Wide format) lines [] before (Ok None) (omega arith) h) ∙ e
+  | inr h ↦ absurd (never (sym (spelled_in_is (by_role Wide format) lines [] before (Err Routed) (omega arith) h) ∙ e))
 ]
   where
     never : Err (fault (suc (length lines)) (length (bytes_of lines)) Routed) ≡ Ok cs → ⊥
@@ -126,15 +126,15 @@ rest_read lines [] before cs e = elim (empty_spells (map without_end_blanks line
 -- ---- texts
 
 pub written_is_read : WrittenIsRead
-written_is_read text cs within t legal =
+written_is_read format text cs within t legal =
     let c = cut text in
     let lines = c.lines in
     let rest = c.rest in
     let same : lines_in t.entries ≡ lines ++ rest ∷ [] = t.lines ∙ same_lines text lines rest c.splits in
     let short : AreWithinLimit (lines ++ rest ∷ []) = subst AreWithinLimit (same_lines text lines rest c.splits) within.1 in
-    let all = spelled_read [] [] (lines ++ rest ∷ []) cs short (subst (λ (l : List (List ℕ)). wide_spelled [] [] l ≡ Ok cs) same (entries_spell [] [] t.entries cs (refl, refl, refl) t.spells)) legal in
-    let b = bind_ok (commands_by (plain Wide) [] lines []) (spelled_in (plain Wide) lines rest) cs (sym (commands_by-push (plain Wide) [] lines rest []) ∙ all) in
-    ended_so (plain Wide) text cs (record {
+    let all = spelled_read format [] (said_first format) (lines ++ rest ∷ []) cs short (subst (λ (l : List (List ℕ)). wide_spelled [] (said_first format) l ≡ Ok cs) same (entries_spell [] (said_first format) t.entries cs (refl, refl, refl) t.spells)) legal in
+    let b = bind_ok (commands_by (by_role Wide format) [] lines (said_first format)) (spelled_in (by_role Wide format) lines rest) cs (sym (commands_by-push (by_role Wide format) [] lines rest (said_first format)) ∙ all) in
+    ended_so (by_role Wide format) text cs (record {
       lines = lines;
       rest = rest;
       first = b.0;
@@ -142,7 +142,7 @@ written_is_read text cs within t legal =
       shown = b.1;
       short = last_short lines rest short;
       within = within.0;
-      last = rest_read lines rest b.0 cs b.2;
+      last = rest_read format lines rest b.0 cs b.2;
       ends = end_found cs t.ends;
     })
 
@@ -152,9 +152,9 @@ one_answer : {E A : Type 0} (r : Result A E) (x y : A) → r ≡ Ok x → r ≡ 
 one_answer (Ok z) x y e f = let first : z ≡ x = cc in let second : z ≡ y = cc in sym first ∙ second
 one_answer (Err z) x y e f = absurd cc
 
-wide_text_spells : (text : List ℕ) (cs : List DrillCommand) → IsText Wide text cs → wide_spelled [] [] (lines_of text) ≡ Ok cs
-wide_text_spells text cs t = subst (λ (l : List (List ℕ)). wide_spelled [] [] l ≡ Ok cs) t.lines (entries_spell [] [] t.entries cs (refl, refl, refl) t.spells)
+wide_text_spells : (format : Option CoordinateFormat) (text : List ℕ) (cs : List DrillCommand) → IsText Wide format text cs → wide_spelled [] (said_first format) (lines_of text) ≡ Ok cs
+wide_text_spells format text cs t = subst (λ (l : List (List ℕ)). wide_spelled [] (said_first format) l ≡ Ok cs) t.lines (entries_spell [] (said_first format) t.entries cs (refl, refl, refl) t.spells)
 
 pub is_text_of_at_most_one : IsTextOfAtMostOne
-is_text_of_at_most_one Strict text cs other t u = one_answer (spelled_after [] (lines_of text)) cs other (text_spells text cs t) (text_spells text other u)
-is_text_of_at_most_one Wide text cs other t u = one_answer (wide_spelled [] [] (lines_of text)) cs other (wide_text_spells text cs t) (wide_text_spells text other u)
+is_text_of_at_most_one Strict format text cs other t u = one_answer (spelled_after (said_first format) (lines_of text)) cs other (text_spells format text cs t) (text_spells format text other u)
+is_text_of_at_most_one Wide format text cs other t u = one_answer (wide_spelled [] (said_first format) (lines_of text)) cs other (wide_text_spells format text cs t) (wide_text_spells format text other u)

@@ -9,7 +9,9 @@ use Rattle.drill_lines.specs.Lines.{without_end_blanks}
 use Rattle.drill_lines.specs.Grammar.{IsLine}
 use Rattle.drill_lines.specs.Routes.{machine_after}
 use Rattle.drill_lines.specs.RouteGrammar.{IsAlone, IsRoute}
+use Rattle.drill_lines.specs.declared.command.CoordinateFormat.{CoordinateFormat}
 use Rattle.drill_text.specs.Lookback.{settings_after}
+use Rattle.drill_text.specs.Profiles.{said_first}
 use Rattle.grid_units.specs.Ascii as ascii
 use Rattle.grid_units.specs.declared.profile.Profile.{Profile}
 use Rattle.grid_units.specs.declared.profile.Profile.TheVariants.{Strict, Wide}
@@ -32,9 +34,10 @@ AreEntries profile earlier before [] commands = commands ≡ before
 AreEntries profile earlier before (entry ∷ entries) commands = (spelled : Option DrillCommand)
     × IsEntry profile earlier (settings_after before) entry spelled × AreEntries profile (earlier ++ entry) (before ++ option_to_list spelled) entries commands
 
--- A text of these commands in a profile: its lines are entries that spell them in order, and the end of the file, `M30`, is among them.
-pub record IsText (profile : Profile) (text : List ℕ) (commands : List DrillCommand) : Type 0 where
+-- A text of these commands in a profile, after what is said of its coordinates beside it: its lines are entries that spell them in order, and the end of the file, `M30`, is
+-- among them.
+pub record IsText (profile : Profile) (format : Option CoordinateFormat) (text : List ℕ) (commands : List DrillCommand) : Type 0 where
   pub entries : List (List (List ℕ))
   pub lines : flat_map (λ entry. entry) entries ≡ lines_of text
-  pub spells : AreEntries profile [] [] entries commands
+  pub spells : AreEntries profile [] (said_first format) entries commands
   pub ends : Contains commands Finish

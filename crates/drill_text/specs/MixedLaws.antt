@@ -6,11 +6,11 @@ use Rattle.grid_units.specs.Lists.{IsLegal}
 use Rattle.drill_lines.specs.declared.command.DrillCommand.{DrillCommand}
 use Rattle.drill_text.specs.Holes.{holes_of}
 use Rattle.drill_text.specs.Plating.{AreCalled, calls_plated, contradiction_rule, own_rule, plated_of, plating_rule}
-use Rattle.drill_text.specs.Profiles.{Kind, ReadsBy, ReadsIn}
+use Rattle.drill_text.specs.Profiles.{Kind, ReadsBy, by_role}
 
 -- a text is read as commands of a kind of file just where it is read as these by its role alone, and none of them breaks the kind's own rule
 abbrev pub KindsReadTheSame : Type 0
-KindsReadTheSame = (kind : Kind) (text : List ℕ) (commands : List DrillCommand) → (ReadsBy kind text (Ok commands)) ↔ (ReadsIn kind.profile text (Ok commands) × IsLegal (own_rule kind.plating) commands)
+KindsReadTheSame = (kind : Kind) (text : List ℕ) (commands : List DrillCommand) → (ReadsBy kind text (Ok commands)) ↔ (ReadsBy (by_role kind.profile kind.format) text (Ok commands) × IsLegal (own_rule kind.plating) commands)
 
 -- commands break no rule of unplated files just where no comment says that holes are plated
 abbrev pub UncontradictedIsLegal : Type 0

@@ -2,12 +2,14 @@
 -- (docs/FORMATS.md, Drill lines; The first fault; The wide profile; Mixed drill files; Unplated drill files).
 use Rattle.std.specs.Prelude.{◌≡◌, ℕ, suc, ◌+◌, Bool, true, false, nat_lt, List, [], ◌∷◌, ◌++◌, length, take, map, if◌then◌else◌, Option, None, Some, Result, Ok, Err}
 use Rattle.std.specs.List.{list_any}
+use Rattle.std.specs.Option.{option_map, option_to_list}
 use Rattle.grid_units.specs.declared.fault.Reason.{Reason}
 use Rattle.grid_units.specs.declared.fault.Reason.TheVariants.{TooLong, Truncated}
 use Rattle.grid_units.specs.declared.fault.Fault.{Fault}
 use Rattle.grid_units.specs.Results.{◌>>=◌, fault, with_place}
 use Rattle.drill_lines.specs.declared.command.DrillCommand.{DrillCommand}
-use Rattle.drill_lines.specs.declared.command.DrillCommand.TheVariants.{Finish}
+use Rattle.drill_lines.specs.declared.command.CoordinateFormat.{CoordinateFormat}
+use Rattle.drill_lines.specs.declared.command.DrillCommand.TheVariants.{Finish, UnitLine}
 use Rattle.grid_units.specs.declared.profile.Profile.{Profile}
 use Rattle.grid_units.specs.declared.profile.Profile.TheVariants.{Strict}
 use Rattle.drill_lines.specs.Lines.{without_end_blanks}
@@ -19,22 +21,31 @@ use Rattle.drill_text.specs.Lookback.{settings_after}
 use Rattle.drill_text.specs.Plating.{rule_in}
 use Rattle.grid_units.specs.Limits.{text_limit, line_limit}
 
--- the kind of a drill file: in which profile it is read, and by what it is known which of its holes are plated
+-- the kind of a drill file: in which profile it is read, by what it is known which of its holes are plated, and what is said of its coordinates beside it
 pub record Kind : Type 0 where
   pub profile : Profile
   pub plating : PlatingKind
+  pub format : Option CoordinateFormat
 
--- a file whose role says of all its holes whether they are plated, and is believed
+-- a file whose role says of all its holes whether they are plated, and is believed, and of whose coordinates this is said
+abbrev pub by_role : Profile → Option CoordinateFormat → Kind
+by_role profile format = record { profile = profile; plating = plating.Stated; format = format }
+
+-- such a file of whose coordinates nothing is said
 abbrev pub plain : Profile → Kind
-plain profile = record { profile = profile; plating = plating.Stated }
+plain profile = by_role profile None
 
 -- a file whose role says that no hole is plated, and whose own words are held to that
 abbrev pub unplated_in : Profile → Kind
-unplated_in profile = record { profile = profile; plating = plating.Unplated }
+unplated_in profile = record { profile = profile; plating = plating.Unplated; format = None }
 
 -- a mixed file
 abbrev pub mixed_in : Profile → Kind
-mixed_in profile = record { profile = profile; plating = plating.Mixed }
+mixed_in profile = record { profile = profile; plating = plating.Mixed; format = None }
+
+-- what stands before the first line: what is said of the coordinates, as a line of the header would say it (`INCH,TZ,00.0000`)
+abbrev pub said_first : Option CoordinateFormat → List DrillCommand
+said_first said = option_to_list (option_map (λ format. UnitLine format.unit format.zeros format.digits) said)
 
 -- ---- one line
 
@@ -67,7 +78,7 @@ commands_by kind earlier (line ∷ lines) before = spelled_in kind earlier line 
 
 -- the commands, or the first fault that these lines and this rest show, whatever bytes follow
 abbrev pub shown_by : Kind → List (List ℕ) → List ℕ → Result (List DrillCommand) Fault
-shown_by kind lines rest = commands_by kind [] lines [] >>= λ commands.
+shown_by kind lines rest = commands_by kind [] lines (said_first kind.format) >>= λ commands.
     if nat_lt line_limit (length rest) then Err (fault (suc (length lines)) (length (bytes_of lines)) TooLong) else Ok commands
 
 -- what is shown in a text of this length: TooLong above 268,435,456 bytes, unless there is an earlier fault

@@ -45,7 +45,7 @@ impl PlatingWords {
 
     /// Nothing is said yet, in a file of this kind.
     pub(crate) fn new(profile: Profile, kind: PlatingKind) -> PlatingWords
-        ensures { AreWordsAfter result (record { profile = profile; plating = kind }) [] }
+        ensures { AreWordsAfter result (record { profile = profile; plating = kind; format = None }) [] }
     {
         PlatingWords {
             profile,

@@ -4,12 +4,13 @@ ghost use Rattle.std.specs.Prelude.{◌≡◌, ◌≢◌, ◌≤◌, ◌<◌, �
 ghost use Rattle.drill_lines.specs.declared.command.DrillCommand.{DrillCommand as TheCommand};
 ghost use Rattle.drill_lines.specs.declared.command.DrillCommand.TheVariants as command;
 ghost use Rattle.grid_units.specs.declared.fault.Fault.{Fault};
-ghost use Rattle.grid_units.specs.declared.fault.Fail.TheVariants.{Refused};
+ghost use Rattle.grid_units.specs.declared.fault.Fail.TheVariants.{Memory, Refused};
 ghost use Rattle.grid_units.specs.Limits.{line_limit, text_limit};
 ghost use Rattle.grid_units.specs.Results.{fault, with_place, Answers, IfFault};
 ghost use Rattle.drill_text.specs.Profiles.{Kind, Reads, ReadsAsBy, checked_by, place_after_count, spelled_in, with_rest, ShowsBy};
 ghost use Rattle.drill_text.specs.Plating.{rule_in};
 ghost use Rattle.drill_text.specs.declared.kept.Keep.{Keep as TheKeep};
+ghost use Rattle.drill_text.specs.declared.platings.PlatingKind.{PlatingKind as ThePlating};
 ghost use Rattle.drill_text.specs.declared.platings.PlatingKind.TheVariants as plating;
 ghost use Rattle.drill_text.specs.declared.kept.Keep.TheVariants as keep;
 ghost use Rattle.drill_text.specs.Keeping.{HasRead, HasReadIn, ResultsIn, ResultsInLine};
@@ -24,7 +25,7 @@ use crate::fast_path::leading_hit;
 use crate::kept::{Keep, KeptCommands};
 use crate::platings::PlatingKind;
 use crate::state::DrillState;
-use drill_lines::{Coordinates, DrillCommand, LineReader};
+use drill_lines::{CoordinateFormat, Coordinates, DrillCommand, LineReader};
 use grid_units::{Fail, Fault, ItemFail, LINE_LIMIT, Profile, Reason};
 use memchr::memchr;
 use std::alloc::Global;
@@ -138,7 +139,7 @@ impl Progress {
 
     /// A reader that has read nothing, of a file whose platings are known so.
     fn new(alloc: Global, keep: Keep, profile: Profile, plating: PlatingKind) -> Progress
-        ensures { Holds result (record { profile = profile; plating = plating }) keep [] }
+        ensures { Holds result (record { profile = profile; plating = plating; format = None }) keep [] }
     {
         Progress {
             reader: LineReader::new(alloc, profile),
@@ -148,6 +149,18 @@ impl Progress {
             start: 0,
             offset: 0,
             lines: 0,
+        }
+    }
+
+    /// Takes in what is said of the coordinates before the first line.
+    fn say(&mut self, format: CoordinateFormat) -> Result<(), Fail>
+        ensures ok { (profile : TheProfile) (plating : ThePlating) (keep : TheKeep) → Holds self.old (record { profile = profile; plating = plating; format = None }) keep [] → OnOk result (Holds self.new (record { profile = profile; plating = plating; format = Some format }) keep []) }
+        ensures err { IfErr result (λ e. e ≡ Memory) }
+    {
+        // Nothing stands before this command, so it breaks no rule.
+        match keep(0, 0, format.command(), &mut self.state, &mut self.kept) {
+            Ok(()) => Ok(()),
+            Err(_) => Err(Fail::Memory),
         }
     }
 
@@ -378,12 +391,29 @@ impl DrillReader {
     /// A reader that has read nothing, and keeps what it is asked for. It reads in this profile a file whose platings are known so: the
     /// other readers pass over what a file itself says of them.
     pub fn of_kind(alloc: Global, keep: Keep, profile: Profile, plating: PlatingKind) -> DrillReader
-        ensures { StandsBy result (record { profile = profile; plating = plating }) keep [] }
+        ensures { StandsBy result (record { profile = profile; plating = plating; format = None }) keep [] }
     {
         DrillReader {
             progress: Progress::new(alloc, keep, profile, plating),
             failed: None,
         }
+    }
+
+    /// Before the first piece, says of the coordinates what a line of the header would say: the text is then read as one after that line.
+    ///
+    /// # Errors
+    ///
+    /// [`Fail::Memory`] alone.
+    pub fn say(&mut self, format: CoordinateFormat) -> Result<(), Fail>
+        ensures ok { (profile : TheProfile) (plating : ThePlating) (keep : TheKeep) → StandsBy self.old (record { profile = profile; plating = plating; format = None }) keep [] → OnOk result (StandsBy self.new (record { profile = profile; plating = plating; format = Some format }) keep []) }
+        ensures err { IfErr result (λ e. e ≡ Memory) }
+        ensures fails { IfErr result (λ e. failure self.new ≡ Some e) }
+    {
+        let outcome = self.progress.say(format);
+        if let Err(_) = outcome {
+            self.failed = Some(Fail::Memory);
+        }
+        outcome
     }
 
     /// Reads the next piece of the text. A reader that has failed gives its failure again.

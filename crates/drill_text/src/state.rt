@@ -49,7 +49,7 @@ impl DrillState {
 
     /// The state before the first command, in a file that is read in this profile, and whose platings are known so.
     pub(crate) fn new(alloc: Global, profile: Profile, kind: PlatingKind) -> DrillState
-        ensures { IsStateAfter result (record { profile = profile; plating = kind }) [] }
+        ensures { IsStateAfter result (record { profile = profile; plating = kind; format = None }) [] }
     {
         let settings = Settings {
             part: Part::Before,

@@ -1,4 +1,5 @@
 use gerber_text::{Command, Placed, WordReader, write_placed};
+use grid_units::Reason::*;
 use grid_units::{Fail, Fault, Profile, Reason};
 use std::alloc::Global;
 
@@ -82,7 +83,7 @@ fn clear_polarity_in_the_strict_profile(rt: HostRuntime) {
         let fault = Fault {
             place: at[0].0,
             byte: at[0].1,
-            reason: Reason::ClearPolarity,
+            reason: ClearPolarity,
         };
         assert!(rt;
             refuses(rt.alloc(), Profile::Strict, text, fault),
@@ -93,15 +94,15 @@ fn clear_polarity_in_the_strict_profile(rt: HostRuntime) {
 
 /// Texts that the wide profile refuses, each with the place and the byte of its fault.
 const REFUSED: [(&[u8], u64, u64, Reason); 9] = [
-    (b"%LPD*IPNEG*AMX*%M02*", 1, 0, Reason::NegativeImage),
-    (b"%LPC%M02*", 1, 0, Reason::BadWord),
-    (b"%LPC**%M02*", 1, 0, Reason::BadWord),
-    (b"%LPCX*%M02*", 1, 0, Reason::BadWord),
-    (b"%LP*%M02*", 1, 0, Reason::BadWord),
-    (b"LPC*M02*", 1, 0, Reason::BadWord),
-    (b"%IPNEG*%M02*", 1, 0, Reason::NegativeImage),
-    (b"%LPC*%\n", 2, 7, Reason::Truncated),
-    (b"M02*\n%LPC*%", 2, 5, Reason::AfterEnd),
+    (b"%LPD*IPNEG*AMX*%M02*", 1, 0, NegativeImage),
+    (b"%LPC%M02*", 1, 0, BadWord),
+    (b"%LPC**%M02*", 1, 0, BadWord),
+    (b"%LPCX*%M02*", 1, 0, BadWord),
+    (b"%LP*%M02*", 1, 0, BadWord),
+    (b"LPC*M02*", 1, 0, BadWord),
+    (b"%IPNEG*%M02*", 1, 0, NegativeImage),
+    (b"%LPC*%\n", 2, 7, Truncated),
+    (b"M02*\n%LPC*%", 2, 5, AfterEnd),
 ];
 
 #[test]

@@ -5,6 +5,7 @@ use gerber_text::{
     Action, Command, Interpolation, Placed, WordReader, leading_operation, read_kept, read_words,
     write_placed,
 };
+use grid_units::Reason::*;
 use grid_units::{Fail, Reason};
 use std::alloc::Global;
 
@@ -91,81 +92,81 @@ fn has_fault(alloc: Global, text: &[u8], fault: Option<(u64, u64, Reason)>) -> b
 /// Items, and the reasons for which they are refused.
 const ITEMS: [(&[u8], Reason); 73] = [
     // Refused by name.
-    (b"%FSLAX24Y24*MOMM*%", Reason::SeveralInOne),
-    (b"%LPC*LPD*%", Reason::SeveralInOne),
-    (b"%**%", Reason::SeveralInOne),
-    (b"%LPC*%", Reason::ClearPolarity),
-    (b"%ABD12*%", Reason::BlockAperture),
-    (b"%TF.FilePolarity,Negative*%", Reason::NegativeImage),
-    (b"G04 #@! TF.FilePolarity,Negative*", Reason::NegativeImage),
-    (b"%IPNEG*%", Reason::NegativeImage),
-    (b"%FSTAX24Y24*%", Reason::TrailingZeros),
-    (b"%FSLIX24Y24*%", Reason::Incremental),
-    (b"G91*", Reason::Incremental),
-    (b"%SFA2B1*%", Reason::OldParameter),
-    (b"%OFA1*%", Reason::OldParameter),
-    (b"%OFB0A0*%", Reason::OldParameter),
-    (b"%OFA*%", Reason::OldParameter),
-    (b"%SFA1B*%", Reason::OldParameter),
-    (b"%IR*%", Reason::OldParameter),
-    (b"%IR0.000000001*%", Reason::OldParameter),
-    (b"%ASAYBX*%", Reason::OldParameter),
-    (b"%MIA1*%", Reason::OldParameter),
-    (b"M00*", Reason::OldParameter),
-    (b"M01*", Reason::OldParameter),
-    (b"N10*", Reason::OldParameter),
+    (b"%FSLAX24Y24*MOMM*%", SeveralInOne),
+    (b"%LPC*LPD*%", SeveralInOne),
+    (b"%**%", SeveralInOne),
+    (b"%LPC*%", ClearPolarity),
+    (b"%ABD12*%", BlockAperture),
+    (b"%TF.FilePolarity,Negative*%", NegativeImage),
+    (b"G04 #@! TF.FilePolarity,Negative*", NegativeImage),
+    (b"%IPNEG*%", NegativeImage),
+    (b"%FSTAX24Y24*%", TrailingZeros),
+    (b"%FSLIX24Y24*%", Incremental),
+    (b"G91*", Incremental),
+    (b"%SFA2B1*%", OldParameter),
+    (b"%OFA1*%", OldParameter),
+    (b"%OFB0A0*%", OldParameter),
+    (b"%OFA*%", OldParameter),
+    (b"%SFA1B*%", OldParameter),
+    (b"%IR*%", OldParameter),
+    (b"%IR0.000000001*%", OldParameter),
+    (b"%ASAYBX*%", OldParameter),
+    (b"%MIA1*%", OldParameter),
+    (b"M00*", OldParameter),
+    (b"M01*", OldParameter),
+    (b"N10*", OldParameter),
     // These fit no row of the tables of words and of extended items.
-    (b"X1%*", Reason::BadWord),
-    (b"X1%MOMM*", Reason::BadWord),
-    (b"X1I1D02*", Reason::BadWord),
-    (b"%ABD10%", Reason::BadWord),
-    (b"%FSLAX24Y24*MOMM%", Reason::BadWord),
-    (b"%%", Reason::BadWord),
-    (b"%*%", Reason::BadWord),
-    (b"%AM*LPC*%", Reason::BadWord),
-    (b"%AMC*1*%", Reason::BadWord),
-    (b"G01D*", Reason::BadWord),
-    (b"G01D99999999999*", Reason::BadWord),
-    (b"D4*", Reason::BadWord),
-    (b"XD5*", Reason::BadWord),
-    (b"X1D5*", Reason::BadWord),
-    (b"G54D01*", Reason::BadWord),
-    (b"G4*", Reason::BadWord),
-    (b"G91X1*", Reason::BadWord),
-    (b"M0*", Reason::BadWord),
-    (b"M002*", Reason::BadWord),
-    (b"%ADD10C*%", Reason::BadWord),
-    (b"%ADD10C,1X1X1X1*%", Reason::BadWord),
-    (b"%ADD9C,1X1X1X1*%", Reason::BadWord),
-    (b"%FSLAX2Y2*%", Reason::BadWord),
-    (b"%FSLAX246Y246*%", Reason::BadWord),
-    (b"%SRX2Y1*%", Reason::BadWord),
-    (b"%IPX*%", Reason::BadWord),
-    (b"\xEF\xBB\xBFG04*", Reason::BadWord),
+    (b"X1%*", BadWord),
+    (b"X1%MOMM*", BadWord),
+    (b"X1I1D02*", BadWord),
+    (b"%ABD10%", BadWord),
+    (b"%FSLAX24Y24*MOMM%", BadWord),
+    (b"%%", BadWord),
+    (b"%*%", BadWord),
+    (b"%AM*LPC*%", BadWord),
+    (b"%AMC*1*%", BadWord),
+    (b"G01D*", BadWord),
+    (b"G01D99999999999*", BadWord),
+    (b"D4*", BadWord),
+    (b"XD5*", BadWord),
+    (b"X1D5*", BadWord),
+    (b"G54D01*", BadWord),
+    (b"G4*", BadWord),
+    (b"G91X1*", BadWord),
+    (b"M0*", BadWord),
+    (b"M002*", BadWord),
+    (b"%ADD10C*%", BadWord),
+    (b"%ADD10C,1X1X1X1*%", BadWord),
+    (b"%ADD9C,1X1X1X1*%", BadWord),
+    (b"%FSLAX2Y2*%", BadWord),
+    (b"%FSLAX246Y246*%", BadWord),
+    (b"%SRX2Y1*%", BadWord),
+    (b"%IPX*%", BadWord),
+    (b"\xEF\xBB\xBFG04*", BadWord),
     // Their numbers are at fault.
-    (b"D*", Reason::BadNumber),
-    (b"D99999999999*", Reason::BadNumber),
-    (b"X1D*", Reason::BadNumber),
-    (b"X1I1D*", Reason::BadNumber),
-    (b"X1Y+-D03*", Reason::BadNumber),
-    (b"X9999999999999Y+-D03*", Reason::BadNumber),
-    (b"X1.0D03*", Reason::BadNumber),
-    (b"%ADDC,1*%", Reason::BadNumber),
-    (b"%ADD10C,*%", Reason::BadNumber),
-    (b"%ADD10C,1X*%", Reason::BadNumber),
-    (b"%ADD09C,0.123456789*%", Reason::BadNumber),
-    (b"%FSLAX24Y25*%", Reason::BadNumber),
-    (b"%LR*%", Reason::BadNumber),
-    (b"%LS*%", Reason::BadNumber),
-    (b"%SRXYIJ*%", Reason::BadNumber),
-    (b"%SRX2147483648Y1I1J0*%", Reason::BadNumber),
-    (b"X9999999999999D03*", Reason::TooManyDigits),
-    (b"X1Y-1000000000000D03*", Reason::TooManyDigits),
-    (b"%ADD10C,1000000X0.123456789*%", Reason::TooFine),
-    (b"%ADD10C,1000000*%", Reason::TooFar),
-    (b"X1*", Reason::BareCoordinate),
-    (b"I5*", Reason::BareCoordinate),
-    (b"G01X1Y1*", Reason::BareCoordinate),
+    (b"D*", BadNumber),
+    (b"D99999999999*", BadNumber),
+    (b"X1D*", BadNumber),
+    (b"X1I1D*", BadNumber),
+    (b"X1Y+-D03*", BadNumber),
+    (b"X9999999999999Y+-D03*", BadNumber),
+    (b"X1.0D03*", BadNumber),
+    (b"%ADDC,1*%", BadNumber),
+    (b"%ADD10C,*%", BadNumber),
+    (b"%ADD10C,1X*%", BadNumber),
+    (b"%ADD09C,0.123456789*%", BadNumber),
+    (b"%FSLAX24Y25*%", BadNumber),
+    (b"%LR*%", BadNumber),
+    (b"%LS*%", BadNumber),
+    (b"%SRXYIJ*%", BadNumber),
+    (b"%SRX2147483648Y1I1J0*%", BadNumber),
+    (b"X9999999999999D03*", TooManyDigits),
+    (b"X1Y-1000000000000D03*", TooManyDigits),
+    (b"%ADD10C,1000000X0.123456789*%", TooFine),
+    (b"%ADD10C,1000000*%", TooFar),
+    (b"X1*", BareCoordinate),
+    (b"I5*", BareCoordinate),
+    (b"G01X1Y1*", BareCoordinate),
 ];
 
 /// Whether an item is refused for this reason when `M02*` follows it.
@@ -186,28 +187,23 @@ fn items_refused(rt: HostRuntime) {
 
 /// Texts with the places, the bytes and the reasons of their faults.
 const TEXTS: [(&[u8], u64, u64, Reason); 13] = [
-    (b"M02*D", 2, 4, Reason::AfterEnd),
-    (b"X1%M02*", 1, 0, Reason::BadWord),
-    (b"", 1, 0, Reason::Truncated),
-    (b"X1%", 1, 0, Reason::Truncated),
-    (b"X1%MOMM*%", 1, 0, Reason::BadWord),
-    (b"D10* \t\r\n", 2, 8, Reason::Truncated),
-    (b"G04*  X", 2, 4, Reason::Truncated),
-    (b"D10*\nD1", 2, 5, Reason::Truncated),
-    (b"M02*\nD10*", 2, 5, Reason::AfterEnd),
-    (b"X1D02*X6*M02*", 2, 6, Reason::BareCoordinate),
-    (b"D10*\r\nX1Y+-D03*M02*", 2, 6, Reason::BadNumber),
-    (
-        b"%FSLAX46Y46*%\n%MOMM*%\n%ADD10C,0.6",
-        3,
-        22,
-        Reason::Truncated,
-    ),
+    (b"M02*D", 2, 4, AfterEnd),
+    (b"X1%M02*", 1, 0, BadWord),
+    (b"", 1, 0, Truncated),
+    (b"X1%", 1, 0, Truncated),
+    (b"X1%MOMM*%", 1, 0, BadWord),
+    (b"D10* \t\r\n", 2, 8, Truncated),
+    (b"G04*  X", 2, 4, Truncated),
+    (b"D10*\nD1", 2, 5, Truncated),
+    (b"M02*\nD10*", 2, 5, AfterEnd),
+    (b"X1D02*X6*M02*", 2, 6, BareCoordinate),
+    (b"D10*\r\nX1Y+-D03*M02*", 2, 6, BadNumber),
+    (b"%FSLAX46Y46*%\n%MOMM*%\n%ADD10C,0.6", 3, 22, Truncated),
     (
         b"%FSLAX46Y46*%\n%MOMM*%\n%LPC*%\nM02*\n",
         3,
         22,
-        Reason::ClearPolarity,
+        ClearPolarity,
     ),
 ];
 
@@ -234,30 +230,26 @@ fn back(count: usize) -> &'static [u8] {
 
 /// Where a line goes into the layer, by the bytes before it, the line, and the fault of the text.
 const LINES: [(usize, &[u8], Option<(u64, u64, Reason)>); 13] = [
-    (22, b"%LPC*%", Some((3, 22, Reason::ClearPolarity))),
-    (22, b"%ABD12*%", Some((3, 22, Reason::BlockAperture))),
+    (22, b"%LPC*%", Some((3, 22, ClearPolarity))),
+    (22, b"%ABD12*%", Some((3, 22, BlockAperture))),
     (
         22,
         b"%TF.FilePolarity,Negative*%",
-        Some((3, 22, Reason::NegativeImage)),
+        Some((3, 22, NegativeImage)),
     ),
     (
         22,
         b"G04 #@! TF.FilePolarity,Negative*",
-        Some((3, 22, Reason::NegativeImage)),
+        Some((3, 22, NegativeImage)),
     ),
-    (22, b"%IPNEG*%", Some((3, 22, Reason::NegativeImage))),
-    (22, b"%SFA2B1*%", Some((3, 22, Reason::OldParameter))),
-    (22, b"%OFA1*%", Some((3, 22, Reason::OldParameter))),
-    (22, b"%ADD10C,0.123456789*%", Some((3, 22, Reason::TooFine))),
-    (51, b"X6*", Some((6, 51, Reason::BareCoordinate))),
-    (42, b"%LPC*%", Some((5, 42, Reason::ClearPolarity))),
-    (
-        42,
-        b"%SRX2147483648Y1I1J0*%",
-        Some((5, 42, Reason::BadNumber)),
-    ),
-    (56, b"X0D03*", Some((7, 56, Reason::AfterEnd))),
+    (22, b"%IPNEG*%", Some((3, 22, NegativeImage))),
+    (22, b"%SFA2B1*%", Some((3, 22, OldParameter))),
+    (22, b"%OFA1*%", Some((3, 22, OldParameter))),
+    (22, b"%ADD10C,0.123456789*%", Some((3, 22, TooFine))),
+    (51, b"X6*", Some((6, 51, BareCoordinate))),
+    (42, b"%LPC*%", Some((5, 42, ClearPolarity))),
+    (42, b"%SRX2147483648Y1I1J0*%", Some((5, 42, BadNumber))),
+    (56, b"X0D03*", Some((7, 56, AfterEnd))),
     (56, b"*   ", None),
 ];
 
@@ -290,11 +282,11 @@ fn lines_refused_in_a_layer(rt: HostRuntime) {
 #[test]
 fn a_layer_cut_short(rt: HostRuntime) {
     for &(count, fault) in &[
-        (51, Some((6, 51, Reason::Truncated))),
-        (33, Some((3, 22, Reason::Truncated))),
-        (21, Some((3, 21, Reason::Truncated))),
-        (22, Some((3, 22, Reason::Truncated))),
-        (23, Some((3, 22, Reason::Truncated))),
+        (51, Some((6, 51, Truncated))),
+        (33, Some((3, 22, Truncated))),
+        (21, Some((3, 21, Truncated))),
+        (22, Some((3, 22, Truncated))),
+        (23, Some((3, 22, Truncated))),
         (55, None),
     ] {
         assert!(rt; has_fault(rt.alloc(), front(count), fault), "of {count}");
@@ -425,7 +417,7 @@ fn kept_of(alloc: Global, text: &[u8]) -> (usize, Option<Fail>) {
 fn commands_before_a_fault(rt: HostRuntime) {
     let alloc = rt.alloc();
     let text = b"%FSLAX46Y46*%\n%MOMM*%\n%LPC*%\n%ADD10C,0.65*%\nD10*\nX0Y0D03*\nM02*\n";
-    let fault = expected_fault(Some((3, 22, Reason::ClearPolarity)));
+    let fault = expected_fault(Some((3, 22, ClearPolarity)));
     assert!(rt; kept_of(alloc, text) == (2, fault));
     assert!(rt; is_same_in_pieces(alloc, text));
 }
@@ -443,7 +435,7 @@ fn fails_at_each(alloc: Global, pieces: &[&[u8]], fail: Option<Fail>) -> bool {
 
 #[test]
 fn a_fault_again_after_it(rt: HostRuntime) {
-    let fault = expected_fault(Some((1, 0, Reason::BadWord)));
+    let fault = expected_fault(Some((1, 0, BadWord)));
     assert!(rt; fails_at_each(rt.alloc(), &[b"x*", b"M02*", b""], fault));
 }
 
@@ -457,37 +449,19 @@ type LongText = (
 );
 
 const LONG_TEXTS: [LongText; 7] = [
-    (
-        b"G04",
-        b'a',
-        1_048_572,
-        b"",
-        Some((1, 0, Reason::Truncated)),
-    ),
+    (b"G04", b'a', 1_048_572, b"", Some((1, 0, Truncated))),
     (b"G04", b'a', 1_048_572, b"*M02*", None),
-    (
-        b"G04",
-        b'a',
-        1_048_572,
-        b"a*M02*",
-        Some((1, 0, Reason::TooLong)),
-    ),
-    (b"", b'a', 1_048_576, b"", Some((1, 0, Reason::Truncated))),
-    (b"", b'a', 1_048_576, b"a", Some((1, 0, Reason::TooLong))),
+    (b"G04", b'a', 1_048_572, b"a*M02*", Some((1, 0, TooLong))),
+    (b"", b'a', 1_048_576, b"", Some((1, 0, Truncated))),
+    (b"", b'a', 1_048_576, b"a", Some((1, 0, TooLong))),
     (
         b"G04*",
         b' ',
         1_048_576,
         b"",
-        Some((2, 1_048_580, Reason::Truncated)),
+        Some((2, 1_048_580, Truncated)),
     ),
-    (
-        b"G04*",
-        b' ',
-        1_048_576,
-        b" ",
-        Some((2, 4, Reason::TooLong)),
-    ),
+    (b"G04*", b' ', 1_048_576, b" ", Some((2, 4, TooLong))),
 ];
 
 /// A text of a beginning, a byte so many times, and the rest.

@@ -1,6 +1,7 @@
 //! Layers that are read, and why others are refused.
 
 use crate::texts::{LAYER, expected_fault, joined, layer_in_pieces};
+use grid_units::Reason::*;
 use grid_units::{Fail, Point, Profile, Reason};
 use layer_image::{Flash, Keep, Layer, LayerReader, What, Why, read_layer};
 use pad_shapes::{Disc, Obround, Pad, Rect};
@@ -67,82 +68,58 @@ fn has_outcome(alloc: Global, text: Option<Vec<u8>>, expected: Outcome) -> bool 
 /// The number of a line of the layer, the text in its place, and the outcome.
 const REPLACED: [(usize, &[u8], Outcome); 44] = [
     // Bytes after the end, and a coordinate without a D code.
-    (6, b"X6*\nM02*\n", Err((6, 51, Reason::BareCoordinate))),
-    (6, b"M02*\nX0D03*\n", Err((7, 56, Reason::AfterEnd))),
+    (6, b"X6*\nM02*\n", Err((6, 51, BareCoordinate))),
+    (6, b"M02*\nX0D03*\n", Err((7, 56, AfterEnd))),
     (6, b"M02*\n*  ", Ok((1, 1))),
     // Lengths that are too long or too fine.
-    (
-        5,
-        b"X10000000000Y0D03*\n",
-        Err((5, 42, Reason::TooManyDigits)),
-    ),
-    (3, b"%ADD10C,0.123456789*%\n", Err((3, 22, Reason::TooFine))),
-    (3, b"%ADD10C,10001*%\n", Err((5, 43, Reason::TooFar))),
+    (5, b"X10000000000Y0D03*\n", Err((5, 42, TooManyDigits))),
+    (3, b"%ADD10C,0.123456789*%\n", Err((3, 22, TooFine))),
+    (3, b"%ADD10C,10001*%\n", Err((5, 43, TooFar))),
     // Items that are refused, and rules that are broken.
-    (4, b"D11*\n", Err((4, 37, Reason::UnknownAperture))),
-    (
-        5,
-        b"%LPC*%\nX0Y0D03*\n",
-        Err((5, 42, Reason::ClearPolarity)),
-    ),
+    (4, b"D11*\n", Err((4, 37, UnknownAperture))),
+    (5, b"%LPC*%\nX0Y0D03*\n", Err((5, 42, ClearPolarity))),
     // Step and repeat blocks.
-    (
-        5,
-        b"%SRX0Y1I0J0*%\nX0Y0D03*\n",
-        Err((5, 42, Reason::BadRepeat)),
-    ),
-    (
-        5,
-        b"%SRX2Y1I-1J0*%\nX0Y0D03*\n",
-        Err((5, 42, Reason::BadRepeat)),
-    ),
-    (5, b"%SRX10001Y1I0J0*%\n", Err((5, 42, Reason::BadRepeat))),
+    (5, b"%SRX0Y1I0J0*%\nX0Y0D03*\n", Err((5, 42, BadRepeat))),
+    (5, b"%SRX2Y1I-1J0*%\nX0Y0D03*\n", Err((5, 42, BadRepeat))),
+    (5, b"%SRX10001Y1I0J0*%\n", Err((5, 42, BadRepeat))),
     (
         5,
         b"%SRX2147483647Y1I1J0*%\nX0Y0D03*\n",
-        Err((5, 42, Reason::BadRepeat)),
+        Err((5, 42, BadRepeat)),
     ),
     (
         5,
         b"%SRX2147483648Y1I1J0*%\nX0Y0D03*\n",
-        Err((5, 42, Reason::BadNumber)),
+        Err((5, 42, BadNumber)),
     ),
     (
         5,
         b"%SRX10000Y10000I1J1*%\nX0Y0D03*\n",
-        Err((6, 64, Reason::TooManyPads)),
+        Err((6, 64, TooManyPads)),
     ),
-    (
-        5,
-        b"%SRX2Y1I999999J0*%\nX0Y0D03*\n",
-        Err((6, 61, Reason::TooFar)),
-    ),
+    (5, b"%SRX2Y1I999999J0*%\nX0Y0D03*\n", Err((6, 61, TooFar))),
     (5, b"%SRX1Y1I999999J999999*%\nX0Y0D03*\n", Ok((1, 1))),
     (5, b"%SRX10000Y1I0J0*%\nX0Y0D03*\n", Ok((10_000, 10_000))),
     // Rules that are broken.
-    (5, b"G36*\nX0Y0D03*\n", Err((6, 47, Reason::InRegion))),
-    (6, b"G36*\nM02*\n", Err((7, 56, Reason::InRegion))),
-    (6, b"G36*\nG36*\n", Err((7, 56, Reason::InRegion))),
-    (6, b"G36*\n%TAa*%\n", Err((7, 56, Reason::InRegion))),
-    (6, b"G36*\n%TD*%\n", Err((7, 56, Reason::InRegion))),
-    (
-        6,
-        b"G36*\nX10000000000D03*\n",
-        Err((7, 56, Reason::InRegion)),
-    ),
-    (5, b"G37*\n", Err((5, 42, Reason::NotInRegion))),
-    (5, b"%MOIN*%\n", Err((5, 42, Reason::UnitConflict))),
-    (5, b"%FSLAX24Y24*%\n", Err((5, 42, Reason::FormatConflict))),
-    (5, b"%ADD10C,1*%\n", Err((5, 42, Reason::Redefined))),
-    (5, b"%AMa*%\n%AMa*%\n", Err((6, 49, Reason::Redefined))),
-    (5, b"%ADD11a*%\n", Err((5, 42, Reason::UnknownMacro))),
-    (5, b"%ADD11C0.5*%\n", Err((5, 42, Reason::UnknownMacro))),
-    (4, b"X0Y0D03*\n", Err((4, 37, Reason::NoAperture))),
-    (4, b"X0Y0D01*\n", Err((4, 37, Reason::NoAperture))),
-    (3, b"%ADD10C,-1*%\n", Err((3, 22, Reason::BadSize))),
-    (3, b"%ADD10R,1X0*%\n", Err((3, 22, Reason::BadSize))),
-    (3, b"%ADD10P,1X13*%\n", Err((3, 22, Reason::BadSize))),
-    (5, b"%LS0*%\n", Err((5, 42, Reason::BadSize))),
+    (5, b"G36*\nX0Y0D03*\n", Err((6, 47, InRegion))),
+    (6, b"G36*\nM02*\n", Err((7, 56, InRegion))),
+    (6, b"G36*\nG36*\n", Err((7, 56, InRegion))),
+    (6, b"G36*\n%TAa*%\n", Err((7, 56, InRegion))),
+    (6, b"G36*\n%TD*%\n", Err((7, 56, InRegion))),
+    (6, b"G36*\nX10000000000D03*\n", Err((7, 56, InRegion))),
+    (5, b"G37*\n", Err((5, 42, NotInRegion))),
+    (5, b"%MOIN*%\n", Err((5, 42, UnitConflict))),
+    (5, b"%FSLAX24Y24*%\n", Err((5, 42, FormatConflict))),
+    (5, b"%ADD10C,1*%\n", Err((5, 42, Redefined))),
+    (5, b"%AMa*%\n%AMa*%\n", Err((6, 49, Redefined))),
+    (5, b"%ADD11a*%\n", Err((5, 42, UnknownMacro))),
+    (5, b"%ADD11C0.5*%\n", Err((5, 42, UnknownMacro))),
+    (4, b"X0Y0D03*\n", Err((4, 37, NoAperture))),
+    (4, b"X0Y0D01*\n", Err((4, 37, NoAperture))),
+    (3, b"%ADD10C,-1*%\n", Err((3, 22, BadSize))),
+    (3, b"%ADD10R,1X0*%\n", Err((3, 22, BadSize))),
+    (3, b"%ADD10P,1X13*%\n", Err((3, 22, BadSize))),
+    (5, b"%LS0*%\n", Err((5, 42, BadSize))),
     // Layers that break no rule.
     (5, b"X0Y0D03*\n%MOMM*%\n%FSLAX46Y46*%\n", Ok((1, 1))),
     (
@@ -180,7 +157,7 @@ const FULL: [(usize, &[u8], Outcome); 2] = [
     (
         5,
         b"%SRX2048Y2048I0J0*%\nX0Y0D03*\n%SR*%\nD03*\n",
-        Err((8, 77, Reason::TooManyPads)),
+        Err((8, 77, TooManyPads)),
     ),
 ];
 
@@ -198,9 +175,9 @@ fn as_many_flashes_as_the_limit(rt: HostRuntime) {
 
 /// Layers by their lines, and their outcomes.
 const LAYERS: [(&[&[u8]], Outcome); 6] = [
-    (&[b"M02*"], Err((1, 0, Reason::NoFormat))),
+    (&[b"M02*"], Err((1, 0, NoFormat))),
     (&[FORMAT, UNIT, END], Ok((0, 0))),
-    (&[FORMAT, b"X0D02*\n", UNIT], Err((2, 14, Reason::NoUnit))),
+    (&[FORMAT, b"X0D02*\n", UNIT], Err((2, 14, NoUnit))),
     (
         &[
             FORMAT,
@@ -210,7 +187,7 @@ const LAYERS: [(&[&[u8]], Outcome); 6] = [
             b"X393800000Y0D03*\n",
             END,
         ],
-        Err((5, 42, Reason::TooFar)),
+        Err((5, 42, TooFar)),
     ),
     (
         &[
@@ -225,7 +202,7 @@ const LAYERS: [(&[&[u8]], Outcome); 6] = [
     ),
     (
         &[FORMAT, UNIT, APERTURE, b"D11*\n", b"%LPC*%\n", FLASH, END],
-        Err((4, 37, Reason::UnknownAperture)),
+        Err((4, 37, UnknownAperture)),
     ),
 ];
 
@@ -245,7 +222,7 @@ fn layers_of_other_lines(rt: HostRuntime) {
 fn are_truncated(alloc: Global, count: usize) -> bool {
     for n in 0..count {
         match fault_of(alloc, front(LAYER, n)) {
-            Some(Fail::Refused(fault)) if fault.reason == Reason::Truncated => {}
+            Some(Fail::Refused(fault)) if fault.reason == Truncated => {}
             _ => return false,
         }
     }
@@ -256,12 +233,12 @@ fn are_truncated(alloc: Global, count: usize) -> bool {
 fn cut_layers_are_truncated(rt: HostRuntime) {
     let alloc = rt.alloc();
     for &(count, fault) in &[
-        (51, Some((6, 51, Reason::Truncated))),
-        (33, Some((3, 22, Reason::Truncated))),
-        (0, Some((1, 0, Reason::Truncated))),
-        (21, Some((3, 21, Reason::Truncated))),
-        (22, Some((3, 22, Reason::Truncated))),
-        (23, Some((3, 22, Reason::Truncated))),
+        (51, Some((6, 51, Truncated))),
+        (33, Some((3, 22, Truncated))),
+        (0, Some((1, 0, Truncated))),
+        (21, Some((3, 21, Truncated))),
+        (22, Some((3, 22, Truncated))),
+        (23, Some((3, 22, Truncated))),
         (55, None),
     ] {
         let found = fault_of(alloc, front(LAYER, count));
@@ -570,7 +547,7 @@ const TWO_FAULTS: &[u8] = b"%FSLAX46Y46*%\n%MOMM*%\n%ADD10C,0.65*%\nD11*\n%LPC*%
 
 /// The failure of both texts, at their fourth item.
 fn unknown_aperture() -> Option<Fail> {
-    expected_fault(Some((4, 37, Reason::UnknownAperture)))
+    expected_fault(Some((4, 37, UnknownAperture)))
 }
 
 /// The offset of the first byte of a text that a reader refuses.

@@ -1,5 +1,6 @@
 //! Lists of commands that some text spells, and other lists.
 
+use crate::plain_commands::Plain::*;
 use crate::plain_commands::{Bytes, Plain, command};
 use gerber_text::{Action, Command, sayable};
 use std::alloc::Global;
@@ -26,48 +27,33 @@ fn is_said(alloc: Global, list: &[Plain]) -> Option<bool> {
 /// Lists of commands, and whether they are sayable.
 const LISTS: [(&[Plain], bool); 21] = [
     (&[], false),
-    (&[Plain::Finish], true),
-    (&[Plain::Finish, Plain::Finish], false),
-    (&[Plain::Dark], false),
-    (&[Plain::Dark, Plain::Finish], true),
+    (&[Finish], true),
+    (&[Finish, Finish], false),
+    (&[Dark], false),
+    (&[Dark, Finish], true),
     // Only the wide profile reads it.
-    (&[Plain::Clear, Plain::Finish], false),
-    (&[Plain::Select(9), Plain::Finish], false),
-    (&[Plain::Named(b"C"), Plain::Finish], false),
-    (
-        &[Plain::Operation(Action::Move, Some(1), 2), Plain::Finish],
-        false,
-    ),
+    (&[Clear, Finish], false),
+    (&[Select(9), Finish], false),
+    (&[Named(b"C"), Finish], false),
+    (&[Operation(Action::Move, Some(1), 2), Finish], false),
     (
         &[
-            Plain::Comment(Bytes::These(b" #@! TF.FilePolarity,Negative")),
-            Plain::Finish,
+            Comment(Bytes::These(b" #@! TF.FilePolarity,Negative")),
+            Finish,
         ],
         false,
     ),
-    (&[Plain::Format(0, 0), Plain::Finish], false),
-    (&[Plain::BareMacro(b"R"), Plain::Finish], false),
-    (&[Plain::Comment(Bytes::These(b"a*")), Plain::Finish], false),
-    (
-        &[Plain::Comment(Bytes::Letters(1_048_573)), Plain::Finish],
-        false,
-    ),
-    (&[Plain::Select(10), Plain::Finish], true),
-    (
-        &[Plain::Operation(Action::Plot, Some(1), 2), Plain::Finish],
-        true,
-    ),
-    (&[Plain::Format(6, 0), Plain::Finish], true),
-    (&[Plain::Turn(-1), Plain::Finish], true),
-    (&[Plain::Scale(0), Plain::Finish], true),
-    (
-        &[Plain::Repeat(0, 2_147_483_647, -1, 0), Plain::Finish],
-        true,
-    ),
-    (
-        &[Plain::Comment(Bytes::Letters(1_048_572)), Plain::Finish],
-        true,
-    ),
+    (&[Format(0, 0), Finish], false),
+    (&[BareMacro(b"R"), Finish], false),
+    (&[Comment(Bytes::These(b"a*")), Finish], false),
+    (&[Comment(Bytes::Letters(1_048_573)), Finish], false),
+    (&[Select(10), Finish], true),
+    (&[Operation(Action::Plot, Some(1), 2), Finish], true),
+    (&[Format(6, 0), Finish], true),
+    (&[Turn(-1), Finish], true),
+    (&[Scale(0), Finish], true),
+    (&[Repeat(0, 2_147_483_647, -1, 0), Finish], true),
+    (&[Comment(Bytes::Letters(1_048_572)), Finish], true),
 ];
 
 #[test]

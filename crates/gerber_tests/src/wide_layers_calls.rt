@@ -114,10 +114,10 @@ const LAYERS: [(&[u8], &[u8]); 24] = [
         b"%AMT*4,1,3,0,0,3,0,0,2,0,0,0*%\n%ADD10T*%\n%ADD11C,0.1*%\n%SRX2Y1I5.0J0*%\nD10*\nX0Y0D03*\nD11*\nX0Y0D03*\nG36*\nX-1000000Y-1000000D02*\nX1000000D01*\nY1000000D01*\nX-1000000D01*\nY-1000000D01*\nG37*\n%SR*%\n",
         b"mmppcc",
     ),
-    // A macro that is not judged, one with a hole and a polygon are no pads.
+    // A macro that is not judged and a disc with a hole are no pads. Of a polygon the disc inside counts.
     (
         b"%AMA*4,1,5,0.5,-0.75,-0.65,-0.75,-0.15,0,-0.65,0.75,0.5,0.75,0.5,-0.75,0*%\n%ADD10A*%\n%ADD11C,0.6X0.2*%\n%ADD12P,1X6*%\nD10*\nX0Y0D03*\nD11*\nX0Y0D03*\nD12*\nX0Y0D03*\n",
-        b"ooo",
+        b"oom",
     ),
     // A contour twice, by a block.
     (

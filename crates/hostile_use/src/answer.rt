@@ -308,7 +308,7 @@ fn digest_entry(digest: &mut Digest, entry: &Entry) {
     });
     digest.take(entry.name.as_str().as_bytes());
     digest.take(entry.file.as_str().as_bytes());
-    if let Some(span) = entry.span {
+    if let Some(span) = entry.said.span {
         let (first, last) = (span.first(), span.last());
         let _ = write!(digest, "{first} {last}");
     }

@@ -5,7 +5,7 @@ use crate::inputs::Board;
 use drill_text::read_drill;
 use grid_units::{Fail, Hole, Rules, Span};
 use layer_image::read_layer;
-use manifest::Role;
+use manifest::{Role, Said};
 use package_check::{
     File, PackageFault, PiecedFile, Report, check_bytes, check_pieces, write_report,
 };
@@ -59,7 +59,7 @@ fn file(role: Role, name: &'static str, span: Option<Span>, text: &'static str) 
     File {
         role,
         name,
-        span,
+        said: Said { span, format: None },
         bytes: text.as_bytes(),
     }
 }
@@ -170,7 +170,7 @@ fn pieced_file<'a>(
     PiecedFile {
         role,
         name,
-        span,
+        said: Said { span, format: None },
         pieces,
     }
 }

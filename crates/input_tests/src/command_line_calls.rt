@@ -83,18 +83,18 @@ fn gives(rt: HostRuntime, line: &str, answer: Answer) -> bool {
 }
 
 const CHECKS: [&str; 6] = [
-    "check --ring 0.125 --gap 0.2 m.csv",
-    "check --gap 0.2 --ring 0.125 m.csv",
-    "check m.csv --gap 0.2 --ring 0.125",
-    "check --ring 0.125 m.csv --gap 0.2",
-    "check --gap=0.2 --ring=0.125 m.csv",
-    "check --gap=0.2 --ring=0.125 -- m.csv",
+    "check --ring 1 --gap 2 m.csv",
+    "check --gap 2 --ring 1 m.csv",
+    "check m.csv --gap 2 --ring 1",
+    "check --ring 1 m.csv --gap 2",
+    "check --gap=2 --ring=1 m.csv",
+    "check --gap=2 --ring=1 -- m.csv",
 ];
 
 #[test]
 fn options_of_a_check_stand_in_any_order(rt: HostRuntime) {
     for &line in &CHECKS {
-        let request = "Check { ring: \"0.125\", gap: \"0.2\", profile: None, manifest: \"m.csv\" }";
+        let request = "Check { ring: \"1\", gap: \"2\", profile: None, manifest: \"m.csv\" }";
         assert!(rt; asks(rt, line, request), "{line}");
     }
 }
@@ -102,42 +102,30 @@ fn options_of_a_check_stand_in_any_order(rt: HostRuntime) {
 /// A value may begin with a minus after an equals sign; elsewhere it is refused (below).
 #[test]
 fn a_value_may_begin_with_a_minus(rt: HostRuntime) {
-    let line = "check --ring=-1 --gap 0.2 m.csv";
-    let request = "Check { ring: \"-1\", gap: \"0.2\", profile: None, manifest: \"m.csv\" }";
+    let line = "check --ring=-1 --gap 2 m.csv";
+    let request = "Check { ring: \"-1\", gap: \"2\", profile: None, manifest: \"m.csv\" }";
     assert!(rt; asks(rt, line, request));
 }
 
 /// Words of a check with a profile, and the word for it: any is kept as it is.
 const PROFILES: [(&str, &str); 11] = [
-    (
-        "check --ring 0.125 --gap 0.2 --profile strict m.csv",
-        "strict",
-    ),
-    ("check --ring 0.125 --gap 0.2 --profile wide m.csv", "wide"),
-    ("check --ring 0.125 --gap 0.2 --profile=wide m.csv", "wide"),
-    ("check --profile wide --ring 0.125 --gap 0.2 m.csv", "wide"),
-    ("check m.csv --gap 0.2 --profile wide --ring 0.125", "wide"),
-    ("check --ring=0.125 --gap=0.2 m.csv --profile=wide", "wide"),
-    (
-        "check --ring=0.125 --gap=0.2 --profile=wide -- m.csv",
-        "wide",
-    ),
-    ("check --ring 0.125 --gap 0.2 --profile WIDE m.csv", "WIDE"),
-    (
-        "check --ring 0.125 --gap 0.2 --profile loose m.csv",
-        "loose",
-    ),
-    (
-        "check --ring 0.125 --gap 0.2 --profile=-wide m.csv",
-        "-wide",
-    ),
-    ("check --ring 0.125 --gap 0.2 --profile= m.csv", ""),
+    ("check --ring 1 --gap 2 --profile strict m.csv", "strict"),
+    ("check --ring 1 --gap 2 --profile wide m.csv", "wide"),
+    ("check --ring 1 --gap 2 --profile=wide m.csv", "wide"),
+    ("check --profile wide --ring 1 --gap 2 m.csv", "wide"),
+    ("check m.csv --gap 2 --profile wide --ring 1", "wide"),
+    ("check --ring=1 --gap=2 m.csv --profile=wide", "wide"),
+    ("check --ring=1 --gap=2 --profile=wide -- m.csv", "wide"),
+    ("check --ring 1 --gap 2 --profile WIDE m.csv", "WIDE"),
+    ("check --ring 1 --gap 2 --profile loose m.csv", "loose"),
+    ("check --ring 1 --gap 2 --profile=-wide m.csv", "-wide"),
+    ("check --ring 1 --gap 2 --profile= m.csv", ""),
 ];
 
 /// Whether the words of a line ask for a check in the profile of this word.
 fn asks_in_profile(rt: HostRuntime, line: &str, profile: &str) -> bool {
     let asked = format!(in rt.alloc();
-        "Check {{ ring: \"0.125\", gap: \"0.2\", profile: Some({profile:?}), manifest: \"m.csv\" }}"
+        "Check {{ ring: \"1\", gap: \"2\", profile: Some({profile:?}), manifest: \"m.csv\" }}"
     );
     match asked {
         Ok(request) => asks(rt, line, request.as_str()),
@@ -194,20 +182,11 @@ const FILES: [(&str, &str); 9] = [
 
 /// Words, and the folder that they name.
 const FOLDERS: [(&str, Option<&str>); 12] = [
-    ("check --ring 0.125 --gap 0.2 m.csv", None),
-    (
-        "check --ring 0.125 --gap 0.2 --in boards m.csv",
-        Some("boards"),
-    ),
-    (
-        "check --in=/a/b/ --ring 0.125 --gap 0.2 m.csv",
-        Some("/a/b/"),
-    ),
-    ("check m.csv --ring 0.125 --gap 0.2 --in=", Some("")),
-    (
-        "report --ring 0.125 --gap 0.2 m.csv --in boards",
-        Some("boards"),
-    ),
+    ("check --ring 1 --gap 2 m.csv", None),
+    ("check --ring 1 --gap 2 --in boards m.csv", Some("boards")),
+    ("check --in=/a/b/ --ring 1 --gap 2 m.csv", Some("/a/b/")),
+    ("check m.csv --ring 1 --gap 2 --in=", Some("")),
+    ("report --ring 1 --gap 2 m.csv --in boards", Some("boards")),
     ("measure --in boards m.csv", Some("boards")),
     ("draw m.csv --in boards --profile wide", Some("boards")),
     ("show --kind layer --in boards top.gbr", Some("boards")),
@@ -243,16 +222,16 @@ fn a_table_and_a_canonical_text_are_asked_for(rt: HostRuntime) {
 }
 
 const REFUSED: [&str; 70] = [
-    "check --ring -1 --gap 0.2 m.csv",
+    "check --ring -1 --gap 2 m.csv",
     // a folder is named once, with its value, and not of explain
-    "check --ring=0.125 --gap=0.2 m.csv --in",
-    "check --ring=0.125 --gap=0.2 --in a --in b m.csv",
+    "check --ring=1 --gap=2 m.csv --in",
+    "check --ring=1 --gap=2 --in a --in b m.csv",
     "manifest --in boards",
     "explain --in boards Routed",
     // other words
     "",
-    "Check --ring 0.125 --gap 0.2 m.csv",
-    "--ring 0.125 --gap 0.2 m.csv",
+    "Check --ring 1 --gap 2 m.csv",
+    "--ring 1 --gap 2 m.csv",
     "show top.gbr",
     "rewrite --kind layer",
     "plot top.gbr",
@@ -264,20 +243,20 @@ const REFUSED: [&str; 70] = [
     "check --version",
     // a check with other words
     "check",
-    "check --ring 0.125 m.csv",
-    "check --gap 0.2 m.csv",
-    "check --ring 0.125 --gap 0.2",
-    "check --ring=0.125 --ring=0.125 --gap=0.2 m.csv",
-    "check --ring=0.125 --gap=0.2 m.csv n.csv",
-    "check --ring=0.125 --gap=0.2 --fast m.csv",
+    "check --ring 1 m.csv",
+    "check --gap 2 m.csv",
+    "check --ring 1 --gap 2",
+    "check --ring=1 --ring=1 --gap=2 m.csv",
+    "check --ring=1 --gap=2 m.csv n.csv",
+    "check --ring=1 --gap=2 --fast m.csv",
     // a profile is named once, with its value, and not of every command
-    "check --ring=0.125 --gap=0.2 m.csv --profile",
-    "check --ring=0.125 --gap=0.2 --profile m.csv",
-    "check --ring=0.125 --gap=0.2 --profile -wide m.csv",
-    "check --ring=0.125 --gap=0.2 --profile wide --profile wide m.csv",
-    "check --profile=strict --ring=0.125 --gap=0.2 --profile=wide m.csv",
+    "check --ring=1 --gap=2 m.csv --profile",
+    "check --ring=1 --gap=2 --profile m.csv",
+    "check --ring=1 --gap=2 --profile -wide m.csv",
+    "check --ring=1 --gap=2 --profile wide --profile wide m.csv",
+    "check --profile=strict --ring=1 --gap=2 --profile=wide m.csv",
     "check --profile wide m.csv",
-    "report --profile wide --profile wide --ring=0.125 --gap=0.2 m.csv",
+    "report --profile wide --profile wide --ring=1 --gap=2 m.csv",
     "measure m.csv --profile",
     "measure --profile m.csv",
     "measure --profile wide --profile wide m.csv",
@@ -294,30 +273,30 @@ const REFUSED: [&str; 70] = [
     // measures, reports and pictures with other words
     "measure",
     "measure m.csv n.csv",
-    "measure --ring 0.125 m.csv",
+    "measure --ring 1 m.csv",
     "measure --max 2 m.csv",
     "report m.csv",
-    "report --ring 0.125 m.csv",
-    "report --ring=0.125 --gap=0.2 --max m.csv",
+    "report --ring 1 m.csv",
+    "report --ring=1 --gap=2 --max m.csv",
     "draw",
     "draw --max 2 m.csv",
     "draw --outline edge.gbr",
     "draw --outline=edge.gbr --outline=edge.gbr m.csv",
-    "report --ring=0.125 --gap=0.2 --outline m.csv",
+    "report --ring=1 --gap=2 --outline m.csv",
     "measure --outline=edge.gbr m.csv",
     // a format is named once, and of two commands
     "measure m.csv --format",
     "measure --format json",
     "measure --format json --format json m.csv",
-    "report --ring=0.125 --gap=0.2 m.csv --format",
-    "report --format=text --ring=0.125 --gap=0.2 --format=json m.csv",
-    "check --format=json --ring=0.125 --gap=0.2 m.csv",
+    "report --ring=1 --gap=2 m.csv --format",
+    "report --format=text --ring=1 --gap=2 --format=json m.csv",
+    "check --format=json --ring=1 --gap=2 m.csv",
     "draw --format json m.csv",
     // the status 0 for findings is asked for once, without a value, and of a report alone
-    "report --exit-zero --exit-zero --ring=0.125 --gap=0.2 m.csv",
-    "report --exit-zero=true --ring=0.125 --gap=0.2 m.csv",
+    "report --exit-zero --exit-zero --ring=1 --gap=2 m.csv",
+    "report --exit-zero=true --ring=1 --gap=2 m.csv",
     "report --exit-zero m.csv",
-    "check --exit-zero --ring=0.125 --gap=0.2 m.csv",
+    "check --exit-zero --ring=1 --gap=2 m.csv",
     "measure --exit-zero m.csv",
     "draw --exit-zero m.csv",
 ];
@@ -543,73 +522,73 @@ fn a_measure_is_asked_for(rt: HostRuntime) {
 
 const REPORTS: [(&str, &str); 16] = [
     (
-        "report --ring 0.125 --gap 0.2 m.csv",
-        "Report { options: ReportWords { ring: \"0.125\", gap: \"0.2\", profile: None, limit: None, waive: None, outline: None, format: None, exit_zero: false }, manifest: \"m.csv\" }",
+        "report --ring 1 --gap 2 m.csv",
+        "Report { options: ReportWords { ring: \"1\", gap: \"2\", profile: None, limit: None, waive: None, outline: None, format: None, exit_zero: false }, manifest: \"m.csv\" }",
     ),
     (
-        "report --ring 0.125 --gap 0.2 --max 2 m.csv",
-        "Report { options: ReportWords { ring: \"0.125\", gap: \"0.2\", profile: None, limit: Some(\"2\"), waive: None, outline: None, format: None, exit_zero: false }, manifest: \"m.csv\" }",
+        "report --ring 1 --gap 2 --max 2 m.csv",
+        "Report { options: ReportWords { ring: \"1\", gap: \"2\", profile: None, limit: Some(\"2\"), waive: None, outline: None, format: None, exit_zero: false }, manifest: \"m.csv\" }",
     ),
     (
-        "report --max 2 m.csv --gap 0.2 --ring 0.125",
-        "Report { options: ReportWords { ring: \"0.125\", gap: \"0.2\", profile: None, limit: Some(\"2\"), waive: None, outline: None, format: None, exit_zero: false }, manifest: \"m.csv\" }",
+        "report --max 2 m.csv --gap 2 --ring 1",
+        "Report { options: ReportWords { ring: \"1\", gap: \"2\", profile: None, limit: Some(\"2\"), waive: None, outline: None, format: None, exit_zero: false }, manifest: \"m.csv\" }",
     ),
     // in a format
     (
-        "report --ring 0.125 --gap 0.2 --format json m.csv",
-        "Report { options: ReportWords { ring: \"0.125\", gap: \"0.2\", profile: None, limit: None, waive: None, outline: None, format: Some(\"json\"), exit_zero: false }, manifest: \"m.csv\" }",
+        "report --ring 1 --gap 2 --format json m.csv",
+        "Report { options: ReportWords { ring: \"1\", gap: \"2\", profile: None, limit: None, waive: None, outline: None, format: Some(\"json\"), exit_zero: false }, manifest: \"m.csv\" }",
     ),
     (
-        "report --ring 0.125 --gap 0.2 --max 2 --format json m.csv",
-        "Report { options: ReportWords { ring: \"0.125\", gap: \"0.2\", profile: None, limit: Some(\"2\"), waive: None, outline: None, format: Some(\"json\"), exit_zero: false }, manifest: \"m.csv\" }",
+        "report --ring 1 --gap 2 --max 2 --format json m.csv",
+        "Report { options: ReportWords { ring: \"1\", gap: \"2\", profile: None, limit: Some(\"2\"), waive: None, outline: None, format: Some(\"json\"), exit_zero: false }, manifest: \"m.csv\" }",
     ),
     (
-        "report --format=json m.csv --gap 0.2 --max=2 --ring 0.125",
-        "Report { options: ReportWords { ring: \"0.125\", gap: \"0.2\", profile: None, limit: Some(\"2\"), waive: None, outline: None, format: Some(\"json\"), exit_zero: false }, manifest: \"m.csv\" }",
+        "report --format=json m.csv --gap 2 --max=2 --ring 1",
+        "Report { options: ReportWords { ring: \"1\", gap: \"2\", profile: None, limit: Some(\"2\"), waive: None, outline: None, format: Some(\"json\"), exit_zero: false }, manifest: \"m.csv\" }",
     ),
     (
-        "report m.csv --gap 0.2 --ring 0.125 --format text",
-        "Report { options: ReportWords { ring: \"0.125\", gap: \"0.2\", profile: None, limit: None, waive: None, outline: None, format: Some(\"text\"), exit_zero: false }, manifest: \"m.csv\" }",
+        "report m.csv --gap 2 --ring 1 --format text",
+        "Report { options: ReportWords { ring: \"1\", gap: \"2\", profile: None, limit: None, waive: None, outline: None, format: Some(\"text\"), exit_zero: false }, manifest: \"m.csv\" }",
     ),
     // with waivers
     (
-        "report --ring 0.125 --gap 0.2 --waive w.csv m.csv",
-        "Report { options: ReportWords { ring: \"0.125\", gap: \"0.2\", profile: None, limit: None, waive: Some(\"w.csv\"), outline: None, format: None, exit_zero: false }, manifest: \"m.csv\" }",
+        "report --ring 1 --gap 2 --waive w.csv m.csv",
+        "Report { options: ReportWords { ring: \"1\", gap: \"2\", profile: None, limit: None, waive: Some(\"w.csv\"), outline: None, format: None, exit_zero: false }, manifest: \"m.csv\" }",
     ),
     (
-        "report --ring 0.125 --gap 0.2 --max 2 --waive w.csv --format json m.csv",
-        "Report { options: ReportWords { ring: \"0.125\", gap: \"0.2\", profile: None, limit: Some(\"2\"), waive: Some(\"w.csv\"), outline: None, format: Some(\"json\"), exit_zero: false }, manifest: \"m.csv\" }",
+        "report --ring 1 --gap 2 --max 2 --waive w.csv --format json m.csv",
+        "Report { options: ReportWords { ring: \"1\", gap: \"2\", profile: None, limit: Some(\"2\"), waive: Some(\"w.csv\"), outline: None, format: Some(\"json\"), exit_zero: false }, manifest: \"m.csv\" }",
     ),
     (
-        "report m.csv --format=waivers --waive=w.csv --gap 0.2 --ring 0.125",
-        "Report { options: ReportWords { ring: \"0.125\", gap: \"0.2\", profile: None, limit: None, waive: Some(\"w.csv\"), outline: None, format: Some(\"waivers\"), exit_zero: false }, manifest: \"m.csv\" }",
+        "report m.csv --format=waivers --waive=w.csv --gap 2 --ring 1",
+        "Report { options: ReportWords { ring: \"1\", gap: \"2\", profile: None, limit: None, waive: Some(\"w.csv\"), outline: None, format: Some(\"waivers\"), exit_zero: false }, manifest: \"m.csv\" }",
     ),
     // with an outline
     (
-        "report --outline edge.gbr --format html --ring 0.125 --gap 0.2 m.csv",
-        "Report { options: ReportWords { ring: \"0.125\", gap: \"0.2\", profile: None, limit: None, waive: None, outline: Some(\"edge.gbr\"), format: Some(\"html\"), exit_zero: false }, manifest: \"m.csv\" }",
+        "report --outline edge.gbr --format html --ring 1 --gap 2 m.csv",
+        "Report { options: ReportWords { ring: \"1\", gap: \"2\", profile: None, limit: None, waive: None, outline: Some(\"edge.gbr\"), format: Some(\"html\"), exit_zero: false }, manifest: \"m.csv\" }",
     ),
     // in a profile
     (
-        "report --profile wide --ring 0.125 --gap 0.2 m.csv",
-        "Report { options: ReportWords { ring: \"0.125\", gap: \"0.2\", profile: Some(\"wide\"), limit: None, waive: None, outline: None, format: None, exit_zero: false }, manifest: \"m.csv\" }",
+        "report --profile wide --ring 1 --gap 2 m.csv",
+        "Report { options: ReportWords { ring: \"1\", gap: \"2\", profile: Some(\"wide\"), limit: None, waive: None, outline: None, format: None, exit_zero: false }, manifest: \"m.csv\" }",
     ),
     (
-        "report m.csv --gap=0.2 --ring=0.125 --max=2 --profile=strict",
-        "Report { options: ReportWords { ring: \"0.125\", gap: \"0.2\", profile: Some(\"strict\"), limit: Some(\"2\"), waive: None, outline: None, format: None, exit_zero: false }, manifest: \"m.csv\" }",
+        "report m.csv --gap=2 --ring=1 --max=2 --profile=strict",
+        "Report { options: ReportWords { ring: \"1\", gap: \"2\", profile: Some(\"strict\"), limit: Some(\"2\"), waive: None, outline: None, format: None, exit_zero: false }, manifest: \"m.csv\" }",
     ),
     // with the status 0 for findings too
     (
-        "report --exit-zero --ring 0.125 --gap 0.2 m.csv",
-        "Report { options: ReportWords { ring: \"0.125\", gap: \"0.2\", profile: None, limit: None, waive: None, outline: None, format: None, exit_zero: true }, manifest: \"m.csv\" }",
+        "report --exit-zero --ring 1 --gap 2 m.csv",
+        "Report { options: ReportWords { ring: \"1\", gap: \"2\", profile: None, limit: None, waive: None, outline: None, format: None, exit_zero: true }, manifest: \"m.csv\" }",
     ),
     (
-        "report m.csv --max=2 --exit-zero --gap 0.2 --profile wide --ring 0.125",
-        "Report { options: ReportWords { ring: \"0.125\", gap: \"0.2\", profile: Some(\"wide\"), limit: Some(\"2\"), waive: None, outline: None, format: None, exit_zero: true }, manifest: \"m.csv\" }",
+        "report m.csv --max=2 --exit-zero --gap 2 --profile wide --ring 1",
+        "Report { options: ReportWords { ring: \"1\", gap: \"2\", profile: Some(\"wide\"), limit: Some(\"2\"), waive: None, outline: None, format: None, exit_zero: true }, manifest: \"m.csv\" }",
     ),
     (
-        "report --ring 0.125 --gap 0.2 --format json m.csv --exit-zero",
-        "Report { options: ReportWords { ring: \"0.125\", gap: \"0.2\", profile: None, limit: None, waive: None, outline: None, format: Some(\"json\"), exit_zero: true }, manifest: \"m.csv\" }",
+        "report --ring 1 --gap 2 --format json m.csv --exit-zero",
+        "Report { options: ReportWords { ring: \"1\", gap: \"2\", profile: None, limit: None, waive: None, outline: None, format: Some(\"json\"), exit_zero: true }, manifest: \"m.csv\" }",
     ),
 ];
 
@@ -626,28 +605,28 @@ const PICTURES: [(&str, &str); 7] = [
         "Draw { options: PictureWords { ring: None, gap: None, profile: None, outline: None }, manifest: \"m.csv\" }",
     ),
     (
-        "draw --ring 0.125 --gap 0.2 m.csv",
-        "Draw { options: PictureWords { ring: Some(\"0.125\"), gap: Some(\"0.2\"), profile: None, outline: None }, manifest: \"m.csv\" }",
+        "draw --ring 1 --gap 2 m.csv",
+        "Draw { options: PictureWords { ring: Some(\"1\"), gap: Some(\"2\"), profile: None, outline: None }, manifest: \"m.csv\" }",
     ),
     (
-        "draw --ring 0.125 m.csv",
-        "Draw { options: PictureWords { ring: Some(\"0.125\"), gap: None, profile: None, outline: None }, manifest: \"m.csv\" }",
+        "draw --ring 1 m.csv",
+        "Draw { options: PictureWords { ring: Some(\"1\"), gap: None, profile: None, outline: None }, manifest: \"m.csv\" }",
     ),
     (
         "draw --outline edge.gbr m.csv",
         "Draw { options: PictureWords { ring: None, gap: None, profile: None, outline: Some(\"edge.gbr\") }, manifest: \"m.csv\" }",
     ),
     (
-        "draw m.csv --gap 0.2 --outline=edge.gbr --ring 0.125",
-        "Draw { options: PictureWords { ring: Some(\"0.125\"), gap: Some(\"0.2\"), profile: None, outline: Some(\"edge.gbr\") }, manifest: \"m.csv\" }",
+        "draw m.csv --gap 2 --outline=edge.gbr --ring 1",
+        "Draw { options: PictureWords { ring: Some(\"1\"), gap: Some(\"2\"), profile: None, outline: Some(\"edge.gbr\") }, manifest: \"m.csv\" }",
     ),
     (
         "draw --profile wide m.csv",
         "Draw { options: PictureWords { ring: None, gap: None, profile: Some(\"wide\"), outline: None }, manifest: \"m.csv\" }",
     ),
     (
-        "draw m.csv --gap 0.2 --profile=loose --ring 0.125",
-        "Draw { options: PictureWords { ring: Some(\"0.125\"), gap: Some(\"0.2\"), profile: Some(\"loose\"), outline: None }, manifest: \"m.csv\" }",
+        "draw m.csv --gap 2 --profile=loose --ring 1",
+        "Draw { options: PictureWords { ring: Some(\"1\"), gap: Some(\"2\"), profile: Some(\"loose\"), outline: None }, manifest: \"m.csv\" }",
     ),
 ];
 

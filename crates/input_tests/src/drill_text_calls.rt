@@ -1,7 +1,9 @@
 use crate::drill_pieces::{Cut, failure_of, read_cut};
 use crate::drill_writing::{NEW, OLD, is_text};
 use drill_lines::DrillCommand;
+use drill_lines::DrillCommand::{Comment, Finish, HeaderEnd, Hit, Pick, Start};
 use drill_text::{Coordinates, Drill, DrillReader, Keep, drill_sayable, read_drill, write_drill};
+use grid_units::Reason::*;
 use grid_units::{Fail, Fault, Hole, Reason, Text};
 use std::alloc::{AllocError, Global};
 
@@ -32,7 +34,7 @@ fn has_tools(drill: &Drill, wanted: &[Tool]) -> bool {
 
 /// Whether there are so many commands, the last of which ends the file.
 fn end_after(commands: &[DrillCommand], count: usize) -> bool {
-    commands.len() == count && matches!(commands.last(), Some(DrillCommand::Finish))
+    commands.len() == count && matches!(commands.last(), Some(Finish))
 }
 
 /// Whether commands can be said, and are written as this text.
@@ -293,121 +295,96 @@ fn tools_among_commands(rt: HostRuntime) {
 const REFUSED: [(&str, Reason, u64, u64); 35] = [
     (
         "M48\nMETRIC\nT1C0.4\n%\nT1\nX2540Y000000\nM30\n",
-        Reason::NoZeros,
+        NoZeros,
         6,
         23,
     ),
     (
         "M48\nMETRIC\nT1C0.4\n%\nT1\nX10000.00000001Y0.0\nM30\n",
-        Reason::TooFar,
+        TooFar,
         6,
         23,
     ),
     (
         "M48\nMETRIC,TZ\nT1C0.4\n%\nT1\nX1234567Y0\nM30\n",
-        Reason::TooManyDigits,
+        TooManyDigits,
         6,
         26,
     ),
     (
         "M48\nMETRIC\nT1C0.4\n%\nT1\nX0000001Y0.0\nM30\n",
-        Reason::NoZeros,
+        NoZeros,
         6,
         23,
     ),
     (
         "M48\nMETRIC\nT1C0.4\n%\nT1\nX99999999999999999999.0Y0.0\nM30\n",
-        Reason::TooFar,
+        TooFar,
         6,
         23,
     ),
-    (
-        "M48\nMETRIC\n%\nX1.123456789Y1000000.0\n",
-        Reason::TooFine,
-        4,
-        13,
-    ),
-    (
-        "M48\nMETRIC\nT1C0.4\n%\nT1\nX0.0Y0.0\n",
-        Reason::Truncated,
-        7,
-        32,
-    ),
+    ("M48\nMETRIC\n%\nX1.123456789Y1000000.0\n", TooFine, 4, 13),
+    ("M48\nMETRIC\nT1C0.4\n%\nT1\nX0.0Y0.0\n", Truncated, 7, 32),
     (
         "M48\nMETRIC\nT1C0.4\n%\nT1\nX0.0Y0.0\nM30\nT1\n",
-        Reason::AfterEnd,
+        AfterEnd,
         8,
         36,
     ),
     (
         "M48\nMETRIC\nT1C0.4\n%\nT1\nX0.0Y0.0\nM30\n;x\n",
-        Reason::AfterEnd,
+        AfterEnd,
         8,
         36,
     ),
     (
         "M48\nMETRIC\nT1C0.4\n%\nT2\nX0.0Y0.0\nM30\n",
-        Reason::UnknownTool,
+        UnknownTool,
         5,
         20,
     ),
-    (
-        "M48\nMETRIC\nT1C0.4\n%\nT0\nX0.0Y0.0\nM30\n",
-        Reason::NoTool,
-        6,
-        23,
-    ),
-    (
-        "M48\nMETRIC\nT1C0.4\n%\nX0.0Y0.0\nM30\n",
-        Reason::NoTool,
-        5,
-        20,
-    ),
-    ("M48\nMETRIC\nTC0.4\n%\n", Reason::BadNumber, 3, 11),
-    ("M48\nMETRIC\nT1\n%\n", Reason::BadLine, 3, 11),
-    ("M48\nMETRIC\nT1C0.4C0.5\n%\n", Reason::BadLine, 3, 11),
-    ("M48\nMETRIC\nT1C4\n%\n", Reason::BadNumber, 3, 11),
-    ("M48\nMETRIC,x\n", Reason::BadLine, 2, 4),
-    ("M48\nMETRIC,\n", Reason::BadNumber, 2, 4),
-    ("M48\nMETRIC,0000000.0\n", Reason::BadNumber, 2, 4),
-    ("M48\nFMAT,1\n", Reason::OldFormat, 2, 4),
-    ("INCH\nM48\n", Reason::OldFormat, 1, 0),
-    ("M48\nICI,ON\n", Reason::Incremental, 2, 4),
+    ("M48\nMETRIC\nT1C0.4\n%\nT0\nX0.0Y0.0\nM30\n", NoTool, 6, 23),
+    ("M48\nMETRIC\nT1C0.4\n%\nX0.0Y0.0\nM30\n", NoTool, 5, 20),
+    ("M48\nMETRIC\nTC0.4\n%\n", BadNumber, 3, 11),
+    ("M48\nMETRIC\nT1\n%\n", BadLine, 3, 11),
+    ("M48\nMETRIC\nT1C0.4C0.5\n%\n", BadLine, 3, 11),
+    ("M48\nMETRIC\nT1C4\n%\n", BadNumber, 3, 11),
+    ("M48\nMETRIC,x\n", BadLine, 2, 4),
+    ("M48\nMETRIC,\n", BadNumber, 2, 4),
+    ("M48\nMETRIC,0000000.0\n", BadNumber, 2, 4),
+    ("M48\nFMAT,1\n", OldFormat, 2, 4),
+    ("INCH\nM48\n", OldFormat, 1, 0),
+    ("M48\nICI,ON\n", Incremental, 2, 4),
     (
         "M48\nMETRIC\nT1C0.4\n%\nT99999999999\nX0.0Y0.0\nM30\n",
-        Reason::BadNumber,
+        BadNumber,
         5,
         20,
     ),
-    ("M48\nMETRIC\n%\nR2M01\n", Reason::Repeat, 4, 13),
-    ("M48\nMETRIC\n%\nM15\n", Reason::Routed, 4, 13),
-    ("M48\nMETRIC\n%\nG85X1.0\n", Reason::BadLine, 4, 13),
-    ("M48\nMETRIC\n%\nX1.123456789Y\n", Reason::BadNumber, 4, 13),
+    ("M48\nMETRIC\n%\nR2M01\n", Repeat, 4, 13),
+    ("M48\nMETRIC\n%\nM15\n", Routed, 4, 13),
+    ("M48\nMETRIC\n%\nG85X1.0\n", BadLine, 4, 13),
+    ("M48\nMETRIC\n%\nX1.123456789Y\n", BadNumber, 4, 13),
     (
         "M48\n;FILE_FORMAT=2:4\nMETRIC,TZ,000.000\nT1C0.4\n%\nT1\nX0.0Y0.0\nM30\n",
-        Reason::FormatConflict,
+        FormatConflict,
         3,
         21,
     ),
     (
         ";FILE_FORMAT=2:4\n;FILE_FORMAT=3:3\nM48\n",
-        Reason::FormatConflict,
+        FormatConflict,
         2,
         17,
     ),
-    (
-        "M48\nMETRIC,LZ\nMETRIC,TZ\n%\n",
-        Reason::FormatConflict,
-        3,
-        14,
-    ),
-    ("M48\nT1C0.4\n%\nT1\nX0.0Y0.0\nM30\n", Reason::NoUnit, 3, 11),
-    ("M48\nMETRIC\nT1C0.4\nT1C0.5\n", Reason::Redefined, 4, 18),
-    ("M48\nMETRIC\nT1C0.0\n%\n", Reason::BadSize, 3, 11),
-    ("M48\nMETRIC\nINCH\n%\n", Reason::UnitConflict, 3, 11),
+    ("M48\nMETRIC,LZ\nMETRIC,TZ\n%\n", FormatConflict, 3, 14),
+    ("M48\nT1C0.4\n%\nT1\nX0.0Y0.0\nM30\n", NoUnit, 3, 11),
+    ("M48\nMETRIC\nT1C0.4\nT1C0.5\n", Redefined, 4, 18),
+    ("M48\nMETRIC\nT1C0.0\n%\n", BadSize, 3, 11),
+    ("M48\nMETRIC\nINCH\n%\n", UnitConflict, 3, 11),
     (
         "M48\nMETRIC\nT1C0.5\n%\nT1\nX0.0Y0.0G85X2.0Y0.0\nX0.0Y5.0G85X2.0Y6.0\nX9.0Y9.0G85X9.0Y9.0\nG00X1.0Y1.0\nM30\n",
-        Reason::Routed,
+        Routed,
         9,
         83,
     ),
@@ -425,14 +402,14 @@ fn refused_texts(rt: HostRuntime) {
 
 /// Numbers of bytes after which a file is cut off, and what is said of what is left.
 const CUTS: [(usize, Option<Refusal>); 9] = [
-    (0, Some((Reason::Truncated, 1, 0))),
-    (2, Some((Reason::OldFormat, 1, 0))),
-    (6, Some((Reason::BadLine, 2, 4))),
-    (24, Some((Reason::BadNumber, 6, 23))),
-    (25, Some((Reason::NoZeros, 6, 23))),
-    (26, Some((Reason::Truncated, 7, 26))),
-    (32, Some((Reason::Truncated, 7, 32))),
-    (34, Some((Reason::BadLine, 7, 32))),
+    (0, Some((Truncated, 1, 0))),
+    (2, Some((OldFormat, 1, 0))),
+    (6, Some((BadLine, 2, 4))),
+    (24, Some((BadNumber, 6, 23))),
+    (25, Some((NoZeros, 6, 23))),
+    (26, Some((Truncated, 7, 26))),
+    (32, Some((Truncated, 7, 32))),
+    (34, Some((BadLine, 7, 32))),
     (35, None),
 ];
 
@@ -461,15 +438,15 @@ fn carriage_returns(rt: HostRuntime) {
     let text = "M48\r\nMETRIC\r\nT1C0.4\r\n%\r\nT1\r\nX0.5Y-0.25\r\nM30\r\n";
     assert!(rt; drills_one(alloc, text, 500_000_000, -250_000_000, 200_000_000));
     let broken = "M48\nMETRIC\nT1C0.4\n%\nT1\nX0.5Y-0.25\rX1.0\nM30\n";
-    assert!(rt; answers(alloc, broken, Some((Reason::BadLine, 6, 23))));
+    assert!(rt; answers(alloc, broken, Some((BadLine, 6, 23))));
 }
 
 /// Texts with blanks, and what is said of them.
 const BLANKS: [(&str, Option<Refusal>); 5] = [
-    ("M48\nMETRIC\n% ", Some((Reason::Truncated, 4, 13))),
-    ("M48\nMETRIC\n%\n ", Some((Reason::Truncated, 5, 14))),
-    (" ;x\nM48\n", Some((Reason::OldFormat, 1, 0))),
-    ("M48\n ;x\n", Some((Reason::BadLine, 2, 4))),
+    ("M48\nMETRIC\n% ", Some((Truncated, 4, 13))),
+    ("M48\nMETRIC\n%\n ", Some((Truncated, 5, 14))),
+    (" ;x\nM48\n", Some((OldFormat, 1, 0))),
+    ("M48\n ;x\n", Some((BadLine, 2, 4))),
     ("M48 \r\nMETRIC\t\r\n%\nM30\r\n \n\r\n", None),
 ];
 
@@ -485,7 +462,7 @@ fn blanks(rt: HostRuntime) {
 const OLD_FORMAT: Option<Fail> = Some(Fail::Refused(Fault {
     place: 1,
     byte: 0,
-    reason: Reason::OldFormat,
+    reason: OldFormat,
 }));
 
 /// Pieces, the second of which ends the line that is refused, and what a reader answers to each.
@@ -596,9 +573,9 @@ fn is_too_much(
 
 /// The number of spaces of a comment, its end, and its fault.
 const LONG_LINES: [(usize, &str, Refusal); 3] = [
-    (1_048_575, "", (Reason::Truncated, 2, 1_048_576)),
-    (1_048_576, "", (Reason::TooLong, 1, 0)),
-    (1_048_576, "\n", (Reason::TooLong, 1, 0)),
+    (1_048_575, "", (Truncated, 2, 1_048_576)),
+    (1_048_576, "", (TooLong, 1, 0)),
+    (1_048_576, "\n", (TooLong, 1, 0)),
 ];
 
 /// A line of 1,048,576 bytes is read, and one more is too long, with its LF or without.
@@ -616,7 +593,7 @@ fn long_lines(rt: HostRuntime) {
 #[test]
 fn many_holes(rt: HostRuntime) {
     let parts = ("M48\nMETRIC\nT1C0.4\n%\nT1\n", "X0.0Y0.0\n", "M30\n");
-    let refusal = (Reason::TooManyHoles, 1_048_582, 9_437_207);
+    let refusal = (TooManyHoles, 1_048_582, 9_437_207);
     assert!(rt; is_too_much(rt.alloc(), parts, 1_048_577, refusal));
 }
 
@@ -638,24 +615,9 @@ fn read_again(rt: HostRuntime) {
 fn not_sayable(rt: HostRuntime) {
     let lists: &[(&[DrillCommand], bool); 4] = &[
         (&[], false),
-        (
-            &[
-                DrillCommand::Start,
-                DrillCommand::HeaderEnd,
-                DrillCommand::Finish,
-            ],
-            true,
-        ),
-        (
-            &[
-                DrillCommand::Start,
-                DrillCommand::HeaderEnd,
-                DrillCommand::Finish,
-                DrillCommand::Finish,
-            ],
-            false,
-        ),
-        (&[DrillCommand::Start, DrillCommand::Finish], false),
+        (&[Start, HeaderEnd, Finish], true),
+        (&[Start, HeaderEnd, Finish, Finish], false),
+        (&[Start, Finish], false),
     ];
     for &(commands, is_sayable) in lists {
         assert!(rt; drill_sayable(commands) == is_sayable);
@@ -664,25 +626,20 @@ fn not_sayable(rt: HostRuntime) {
 
 /// Whether a list with just this command in its body is sayable.
 fn is_said_in_body(command: DrillCommand) -> bool {
-    drill_sayable(&[
-        DrillCommand::Start,
-        DrillCommand::HeaderEnd,
-        command,
-        DrillCommand::Finish,
-    ])
+    drill_sayable(&[Start, HeaderEnd, command, Finish])
 }
 
 #[test]
 fn not_sayable_in_the_body(rt: HostRuntime) {
     let nowhere = Coordinates::new(None, None);
-    assert!(rt; !is_said_in_body(DrillCommand::Hit(nowhere)));
-    assert!(rt; !is_said_in_body(DrillCommand::Pick(1000)));
+    assert!(rt; !is_said_in_body(Hit(nowhere)));
+    assert!(rt; !is_said_in_body(Pick(1000)));
 }
 
 /// Whether a comment of this text is read by none.
 fn is_no_comment(alloc: Global, text: &str) -> bool {
     match Text::from_slice(alloc, text.as_bytes()) {
-        Ok(comment) => !is_said_in_body(DrillCommand::Comment(comment)),
+        Ok(comment) => !is_said_in_body(Comment(comment)),
         Err(_) => false,
     }
 }

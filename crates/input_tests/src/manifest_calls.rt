@@ -1,6 +1,8 @@
 //! Manifests that are accepted, with the files and spans that they name, and those that are refused.
 
-use grid_units::{Fail, Profile, Reason, Span};
+use drill_lines::CoordinateFormat;
+use grid_units::Reason::*;
+use grid_units::{Fail, Profile, Reason, Span, Unit, Zeros};
 use manifest::*;
 use std::alloc::{AllocError, Global};
 
@@ -43,7 +45,7 @@ fn are_spanned(entries: &[Entry], spans: &[LayerRange]) -> bool {
         && entries
             .iter()
             .zip(spans)
-            .all(|(entry, span)| layers_of(entry.span) == *span)
+            .all(|(entry, span)| layers_of(entry.said.span) == *span)
 }
 
 /// What the entries of a manifest have: just these files, or just these spans.
@@ -130,80 +132,52 @@ fn files_are_named_in_order(rt: HostRuntime) {
 /// A manifest, and the place and the reason of its refusal.
 const REFUSED: [(&str, u64, Reason); 36] = [
     // records that break a rule
-    ("", 1, Reason::BadManifest),
-    ("role,file,name\n", 1, Reason::BadManifest),
-    ("role,name,file\nvia,a,b\n", 2, Reason::BadRole),
-    ("role,name,file\ncopper,,b\n", 2, Reason::EmptyName),
-    (
-        "role,name,file\ncopper,a,b\ncopper,a,b\n",
-        3,
-        Reason::RepeatedName,
-    ),
-    ("role,name,file\ncopper,a,b\n", 3, Reason::NoDrill),
-    ("role,name,file\nplated,pth,pth.drl\n", 3, Reason::NoCopper),
+    ("", 1, BadManifest),
+    ("role,file,name\n", 1, BadManifest),
+    ("role,name,file\nvia,a,b\n", 2, BadRole),
+    ("role,name,file\ncopper,,b\n", 2, EmptyName),
+    ("role,name,file\ncopper,a,b\ncopper,a,b\n", 3, RepeatedName),
+    ("role,name,file\ncopper,a,b\n", 3, NoDrill),
+    ("role,name,file\nplated,pth,pth.drl\n", 3, NoCopper),
     // every record has as many fields as the first
-    (
-        "role,name,file,first,last\ncopper,a,b\n",
-        2,
-        Reason::BadManifest,
-    ),
-    (
-        "role,name,file,first,last\ncopper,a,b,\n",
-        2,
-        Reason::BadManifest,
-    ),
-    (
-        "role,name,file,first,last\ncopper,a,b,,,\n",
-        2,
-        Reason::BadManifest,
-    ),
-    ("role,name,file\ncopper,a,b,,\n", 2, Reason::BadManifest),
-    ("role,name,file,first\n", 1, Reason::BadManifest),
-    ("role,name,file,last,first\n", 1, Reason::BadManifest),
-    ("role,name,file,first,last,\n", 1, Reason::BadManifest),
+    ("role,name,file,first,last\ncopper,a,b\n", 2, BadManifest),
+    ("role,name,file,first,last\ncopper,a,b,\n", 2, BadManifest),
+    ("role,name,file,first,last\ncopper,a,b,,,\n", 2, BadManifest),
+    ("role,name,file\ncopper,a,b,,\n", 2, BadManifest),
+    ("role,name,file,first\n", 1, BadManifest),
+    ("role,name,file,last,first\n", 1, BadManifest),
+    ("role,name,file,first,last,\n", 1, BadManifest),
     // one byte order mark is dropped, and what is left is read
-    ("\u{FEFF}", 1, Reason::BadManifest),
-    ("\u{FEFF}\u{FEFF}role,name,file\n", 1, Reason::BadManifest),
+    ("\u{FEFF}", 1, BadManifest),
+    ("\u{FEFF}\u{FEFF}role,name,file\n", 1, BadManifest),
     // empty lines are no records
-    ("role,name,file\n\n\nvia,a,b\n", 2, Reason::BadRole),
-    ("role,name,file\ncopper,a,b\n\n\n", 3, Reason::NoDrill),
+    ("role,name,file\n\n\nvia,a,b\n", 2, BadRole),
+    ("role,name,file\ncopper,a,b\n\n\n", 3, NoDrill),
     // quoted fields are read, and are no empty lines
-    ("role,name,file\n\"\"\n", 2, Reason::BadManifest),
-    ("role,name,file\n \n", 2, Reason::BadManifest),
-    (
-        "role,name,file\ncopper,\"a\nb\",c\n",
-        2,
-        Reason::BadManifest,
-    ),
+    ("role,name,file\n\"\"\n", 2, BadManifest),
+    ("role,name,file\n \n", 2, BadManifest),
+    ("role,name,file\ncopper,\"a\nb\",c\n", 2, BadManifest),
     // fields are text without control bytes
-    ("role,name,file\ncopper,a\u{1F},b\n", 2, Reason::BadManifest),
-    ("role,name,file\ncopper,a,b\t\n", 2, Reason::BadManifest),
-    ("role,name,file\ncopper,a,\u{7F}\n", 2, Reason::BadManifest),
-    ("role,name,file\ncopper,a\n", 2, Reason::BadManifest),
-    ("role,name,file\ncopper,a,b,c\n", 2, Reason::BadManifest),
+    ("role,name,file\ncopper,a\u{1F},b\n", 2, BadManifest),
+    ("role,name,file\ncopper,a,b\t\n", 2, BadManifest),
+    ("role,name,file\ncopper,a,\u{7F}\n", 2, BadManifest),
+    ("role,name,file\ncopper,a\n", 2, BadManifest),
+    ("role,name,file\ncopper,a,b,c\n", 2, BadManifest),
     // the first reason in order counts
-    ("role,name,file\nvia,\u{1},b\n", 2, Reason::BadManifest),
-    ("role,name,file\nvia,,b\n", 2, Reason::BadRole),
-    ("role,name,file\nCopper,a,b\n", 2, Reason::BadRole),
-    ("role,name,file\n,a,b\n", 2, Reason::BadRole),
-    (
-        "role,name,file\ncopper,a,b\ncopper,a,\n",
-        3,
-        Reason::EmptyName,
-    ),
-    (
-        "role,name,file\ncopper,a,b\nplated,a,c\n",
-        3,
-        Reason::RepeatedName,
-    ),
+    ("role,name,file\nvia,\u{1},b\n", 2, BadManifest),
+    ("role,name,file\nvia,,b\n", 2, BadRole),
+    ("role,name,file\nCopper,a,b\n", 2, BadRole),
+    ("role,name,file\n,a,b\n", 2, BadRole),
+    ("role,name,file\ncopper,a,b\ncopper,a,\n", 3, EmptyName),
+    ("role,name,file\ncopper,a,b\nplated,a,c\n", 3, RepeatedName),
     (
         "role,name,file\ncopper,a,b\nvia,c,d\nplated,a,c\n",
         3,
-        Reason::BadRole,
+        BadRole,
     ),
-    ("role,name,file\n", 2, Reason::NoCopper),
-    ("role,name,file,from\n", 1, Reason::BadManifest),
-    ("Role,name,file\ncopper,a,b\n", 1, Reason::BadManifest),
+    ("role,name,file\n", 2, NoCopper),
+    ("role,name,file,from\n", 1, BadManifest),
+    ("Role,name,file\ncopper,a,b\n", 1, BadManifest),
 ];
 
 #[test]
@@ -217,7 +191,7 @@ fn manifests_that_break_a_rule_are_refused(rt: HostRuntime) {
 #[test]
 fn names_are_text(rt: HostRuntime) {
     let text = b"role,name,file\ncopper,a\xFF,b\n";
-    assert!(rt; refuses(rt, text, 2, Reason::BadManifest));
+    assert!(rt; refuses(rt, text, 2, BadManifest));
 }
 
 /// The span of a record, if it has one.
@@ -253,7 +227,7 @@ fn has_span(rt: HostRuntime, fields: &str, span: LayerRange) -> bool {
 /// Whether such a manifest is refused for its span.
 fn refuses_span(rt: HostRuntime, fields: &str) -> bool {
     match with_span(rt.alloc(), fields) {
-        Ok(text) => refuses(rt, text.as_bytes(), 4, Reason::BadSpan),
+        Ok(text) => refuses(rt, text.as_bytes(), 4, BadSpan),
         Err(_) => false,
     }
 }
@@ -309,24 +283,24 @@ fn spans_that_are_none_are_refused(rt: HostRuntime) {
 
 /// Records of files, and the place and the reason of their refusal.
 const REFUSED_RECORDS: [(&str, u64, Reason); 10] = [
-    ("copper,top,top.gbr,1,1\n", 2, Reason::BadSpan),
-    ("copper,top,top.gbr,,1\n", 2, Reason::BadSpan),
-    ("plated,pth,pth.drl,1,1\n", 3, Reason::NoCopper),
-    ("copper,top,top.gbr,,\n", 3, Reason::NoDrill),
+    ("copper,top,top.gbr,1,1\n", 2, BadSpan),
+    ("copper,top,top.gbr,,1\n", 2, BadSpan),
+    ("plated,pth,pth.drl,1,1\n", 3, NoCopper),
+    ("copper,top,top.gbr,,\n", 3, NoDrill),
     (
         "unplated,a,a.drl,1,2\nplated,b,b.drl,1,3\ncopper,c,c.gbr,,\n",
         2,
-        Reason::BadSpan,
+        BadSpan,
     ),
     (
         "unplated,a,a.drl,1,1\nplated,b,b.drl,1,3\ncopper,c,c.gbr,,\n",
         3,
-        Reason::BadSpan,
+        BadSpan,
     ),
-    ("copper,a,b,,\nplated,a,c,2,1\n", 3, Reason::RepeatedName),
-    ("plated,,c,2,1\n", 2, Reason::EmptyName),
-    ("via,a,c,2,1\n", 2, Reason::BadRole),
-    ("plated,a,c,2,\t\n", 2, Reason::BadManifest),
+    ("copper,a,b,,\nplated,a,c,2,1\n", 3, RepeatedName),
+    ("plated,,c,2,1\n", 2, EmptyName),
+    ("via,a,c,2,1\n", 2, BadRole),
+    ("plated,a,c,2,\t\n", 2, BadManifest),
 ];
 
 #[test]
@@ -397,39 +371,32 @@ const WIDE_ALONE: [WideRow; 4] = [
 fn mixed_is_a_role_of_the_wide_profile_alone(rt: HostRuntime) {
     for &(text, files, spans, place) in &WIDE_ALONE {
         assert!(rt; is_accepted_wide(rt, text, files, spans), "of {text}");
-        assert!(rt;
-            refuses(rt, text.as_bytes(), place, Reason::BadRole),
-            "of {text}"
-        );
+        assert!(rt; refuses(rt, text.as_bytes(), place, BadRole), "of {text}");
     }
 }
 
 /// A manifest, and the place and the reason of its refusal in the wide profile.
 const REFUSED_WIDE: [(&str, u64, Reason); 9] = [
     // mixed files are no copper layers
-    ("role,name,file\nmixed,a,b\n", 3, Reason::NoCopper),
+    ("role,name,file\nmixed,a,b\n", 3, NoCopper),
     (
         "role,name,file,first,last\ncopper,a,b,,\nmixed,c,d,1,2\n",
         3,
-        Reason::BadSpan,
+        BadSpan,
     ),
     (
         "role,name,file,first,last\ncopper,a,b,,\nmixed,c,d,1,\n",
         3,
-        Reason::BadSpan,
+        BadSpan,
     ),
     // the word is `mixed`
-    ("role,name,file\nMixed,a,b\n", 2, Reason::BadRole),
-    ("role,name,file\nmixe,a,b\n", 2, Reason::BadRole),
-    ("role,name,file\nmixed ,a,b\n", 2, Reason::BadRole),
+    ("role,name,file\nMixed,a,b\n", 2, BadRole),
+    ("role,name,file\nmixe,a,b\n", 2, BadRole),
+    ("role,name,file\nmixed ,a,b\n", 2, BadRole),
     // the other rules count as before
-    ("role,name,file\nmixed,,b\n", 2, Reason::EmptyName),
-    (
-        "role,name,file\ncopper,a,b\nmixed,a,c\n",
-        3,
-        Reason::RepeatedName,
-    ),
-    ("role,name,file\nmixed,\u{1},b\n", 2, Reason::BadManifest),
+    ("role,name,file\nmixed,,b\n", 2, EmptyName),
+    ("role,name,file\ncopper,a,b\nmixed,a,c\n", 3, RepeatedName),
+    ("role,name,file\nmixed,\u{1},b\n", 2, BadManifest),
 ];
 
 #[test]
@@ -447,4 +414,86 @@ fn the_profiles_agree_elsewhere(rt: HostRuntime) {
         let refusal = refusal_in(rt, Profile::Wide, text.as_bytes());
         assert!(rt; refusal == Some((place, 0, reason)), "of {text}");
     }
+}
+
+/// The unit, the digits and the zeros that are said of a drill file's coordinates.
+type Format = (Unit, Option<(u8, u8)>, Option<Zeros>);
+
+fn format_of(said: Option<CoordinateFormat>) -> Option<Format> {
+    let said = said?;
+    let digits = match said.digits {
+        Some(digits) => Some((digits.whole(), digits.decimals())),
+        None => None,
+    };
+    Some((said.unit, digits, said.zeros))
+}
+
+/// The last three fields of a drill file of version 3, and what they say.
+const FORMATS: [(&str, Option<Format>); 5] = [
+    (
+        "inch,2:4,TZ",
+        Some((Unit::Inch, Some((2, 4)), Some(Zeros::Trailing))),
+    ),
+    (
+        "mm,3:3,LZ",
+        Some((Unit::Millimetre, Some((3, 3)), Some(Zeros::Leading))),
+    ),
+    ("mm,,", Some((Unit::Millimetre, None, None))),
+    ("inch,,TZ", Some((Unit::Inch, None, Some(Zeros::Trailing)))),
+    (",,", None),
+];
+
+/// The same that say nothing.
+const NO_FORMATS: [&str; 9] = [
+    ",2:4,",
+    ",,TZ",
+    "cm,,",
+    "INCH,,",
+    "inch,2:7,",
+    "inch,0:4,",
+    "inch,24,",
+    "inch,,tz",
+    "inch,,,",
+];
+
+/// A manifest of version 3: a copper layer with the fields `copper` for its coordinates, and a drill file with `drill`.
+fn with_format(alloc: Global, copper: &str, drill: &str) -> Result<String, AllocError> {
+    format!(in alloc;
+        "role,name,file,first,last,unit,digits,zeros\ncopper,top,top.gbr,,,{copper}\nplated,pth,pth.drl,,,{drill}\n"
+    )
+}
+
+/// Whether such a manifest is accepted in the wide profile, and says this of its drill file, and is refused in the strict one.
+fn has_format(rt: HostRuntime, fields: &str, format: Option<Format>) -> bool {
+    let Ok(text) = with_format(rt.alloc(), ",,", fields) else {
+        return false;
+    };
+    let Ok(entries) = read_manifest_in(rt.alloc(), Profile::Wide, text.as_bytes()) else {
+        return false;
+    };
+    let Some(drill) = entries.get(1) else {
+        return false;
+    };
+    format_of(drill.said.format) == format && refuses(rt, text.as_bytes(), 1, BadManifest)
+}
+
+/// Whether such a manifest is refused in the wide profile at this record.
+fn refuses_format(rt: HostRuntime, copper: &str, drill: &str, place: u64) -> bool {
+    match with_format(rt.alloc(), copper, drill) {
+        Ok(text) => {
+            refusal_in(rt, Profile::Wide, text.as_bytes()) == Some((place, 0, BadManifest))
+        }
+        Err(_) => false,
+    }
+}
+
+#[test]
+fn drill_files_are_said_to_have_coordinates_in_the_wide_profile_alone(rt: HostRuntime) {
+    for &(fields, format) in &FORMATS {
+        assert!(rt; has_format(rt, fields, format), "of {fields}");
+    }
+    for &fields in &NO_FORMATS {
+        assert!(rt; refuses_format(rt, ",,", fields, 3), "of {fields}");
+    }
+    assert!(rt; refuses_format(rt, "inch,,", ",,", 2));
 }

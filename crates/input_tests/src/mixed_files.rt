@@ -1,4 +1,5 @@
 use drill_text::{Drill, DrillReader, Keep, PlatingKind};
+use grid_units::Reason::*;
 use grid_units::{Fail, Fault, Profile, Reason};
 use std::alloc::Global;
 
@@ -103,90 +104,85 @@ fn holes_are_plated_as_their_tools(rt: HostRuntime) {
 const REFUSED: [(&str, Reason, u64, u64); 14] = [
     (
         "M48\nMETRIC\nT1C0.4\n;TYPE=NON_PLATED\nT2C1.0\n%\nT1\nX0.0Y0.0\nT2\nX3.0Y0.0\nM30\n",
-        Reason::NoPlating,
+        NoPlating,
         8,
         47,
     ),
     // An attribute takes back what was said: all of them, the function, or a function that is neither.
     (
         "M48\nMETRIC\n; #@! TA.AperFunction,Plated,PTH\nT1C0.4\n; #@! TD\nT2C1.0\n%\nT1\nX0.0Y0.0\nT2\nX3.0Y0.0\nM30\n",
-        Reason::NoPlating,
+        NoPlating,
         11,
         84,
     ),
     (
         "M48\nMETRIC\n;#@! TA.AperFunction,NonPlated\nT1C0.4\n; #@! TD.AperFunction\nT2C1.0\n%\nT1\nX0.0Y0.0\nT2\nX3.0Y0.0\nM30\n",
-        Reason::NoPlating,
+        NoPlating,
         11,
         95,
     ),
     (
         "M48\nMETRIC\n;TYPE=PLATED\nT1C0.4\n; #@! TA.AperFunction,ViaDrill\nT2C1.0\n%\nT1\nX0.0Y0.0\nT2\nX3.0Y0.0\nM30\n",
-        Reason::NoPlating,
+        NoPlating,
         11,
         86,
     ),
     // In the body no comment may say it.
     (
         "M48\nMETRIC\n;TYPE=PLATED\nT1C0.4\nT2C1.0\n%\nT1\nX0.0Y0.0\n;TYPE=NON_PLATED\nT2\nX3.0Y0.0\nM30\n",
-        Reason::NoPlating,
+        NoPlating,
         9,
         52,
     ),
     (
         "M48\nMETRIC\n;TYPE=PLATED\nT1C0.4\nT2C1.0\n%\n; #@! TD\nT1\nX0.0Y0.0\nM30\n",
-        Reason::NoPlating,
+        NoPlating,
         7,
         40,
     ),
     // A slot, and one that is routed, at its last line.
     (
         "M48\nMETRIC\nT1C0.4\n%\nT1\nX0.0Y0.0G85X1.0Y0.0\nM30\n",
-        Reason::NoPlating,
+        NoPlating,
         6,
         23,
     ),
     (
         "M48\nMETRIC\nT1C0.4\n%\nT1\nG00X0.0Y0.0\nM15\nG01X1.0Y0.0\nM16\nM30\n",
-        Reason::NoPlating,
+        NoPlating,
         9,
         51,
     ),
     // The word of a function is read byte by byte.
     (
         "M48\nMETRIC\n; #@! TA.AperFunction\nT1C0.4\n%\nT1\nX0.0Y0.0\nM30\n",
-        Reason::NoPlating,
+        NoPlating,
         7,
         45,
     ),
     (
         "M48\nMETRIC\n; #@! TA.AperFunction, Plated\nT1C0.4\n%\nT1\nX0.0Y0.0\nM30\n",
-        Reason::NoPlating,
+        NoPlating,
         7,
         53,
     ),
     (
         "M48\nMETRIC\n; #@! TA.AperFunctions,Plated\nT1C0.4\n%\nT1\nX0.0Y0.0\nM30\n",
-        Reason::NoPlating,
+        NoPlating,
         7,
         53,
     ),
     // The other rules come first, and so does an earlier line.
-    (
-        "M48\nMETRIC\nT1C0.4\n%\nX0.0Y0.0\nM30\n",
-        Reason::NoTool,
-        5,
-        20,
-    ),
+    ("M48\nMETRIC\nT1C0.4\n%\nX0.0Y0.0\nM30\n", NoTool, 5, 20),
     (
         "M48\nMETRIC\nT1C0.4\n%\nT1\nQ\nX0.0Y0.0\nM30\n",
-        Reason::BadLine,
+        BadLine,
         6,
         23,
     ),
     (
         "M48\nMETRIC\nT1C0.4\n%\nT1\nX0.0Y0.0\nQ\nM30\n",
-        Reason::NoPlating,
+        NoPlating,
         6,
         23,
     ),

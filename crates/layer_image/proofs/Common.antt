@@ -20,8 +20,8 @@ pub use Rattle.grid_units.specs.declared.fault.Fault.{Fault}
 pub use Rattle.grid_units.specs.declared.fault.Reason.{Reason}
 pub use Rattle.grid_units.specs.declared.profile.Profile.{Profile}
 pub use Rattle.grid_units.specs.declared.profile.Profile.TheVariants.{Strict, Wide}
-pub use Rattle.layer_features.specs.CopperHolding.{HasMet, IsCopperOf}
-pub use Rattle.layer_features.specs.Features.{contour_count, contour_feature, contour_pad, counts_of, dark_kind, features_at, features_of, flash_feature, flashed_count, is_contour, is_flashed_pad, is_other, macro_pad, other_count, pad_in, strict_feature, strict_feature_of, strict_kind, strict_kind_of, strict_view, wide_features_of}
+pub use Rattle.layer_features.specs.CopperHolding.{HasMet, IsCopperOf, IsPassed}
+pub use Rattle.layer_features.specs.Features.{contour_count, contour_feature, contour_pad, counts_of, dark_kind, features_at, features_of, flash_feature, flashed_count, is_contour, is_flashed_pad, is_other, macro_pad, other_count, other_kind, pad_in, strict_feature, strict_feature_of, strict_kind, strict_kind_of, strict_view, wide_features_of}
 pub use Rattle.layer_features.specs.Kept.{keeps_commands, keeps_drawn, keeps_pads_alone, keeps_rows, left_pads}
 pub use Rattle.layer_features.specs.declared.keep.Keep.{Keep}
 pub use Rattle.layer_image.specs.Holding.{HasContent, HasMetLegal, HasMetText, HasScannedFor, LayerStands, ShowsLayerFaultIn, has_forgotten, standing_in}
@@ -46,5 +46,15 @@ pub use Rattle.std.proofs.lemmas.List.Concat.{flat_map-cons}
 pub use Rattle.std.proofs.lemmas.List.Elements.{Contains-append_cases, Contains-append_left, Contains-append_right, filter_map-append}
 pub use Rattle.std.proofs.lemmas.Result.{err_from_is_err_and}
 pub use Rattle.std.specs.List.{AllByRecursion, Contains, cons_option, filter_map, find, flat_map, list_all, list_any}
-pub use Rattle.std.specs.Option.{option_map, option_map_or}
+pub use Rattle.std.specs.Option.{option_and_then, option_map, option_map_or}
 pub use Rattle.std.specs.Prelude.{count_by, if◌then◌else◌}
+pub use Rattle.gerber_commands.specs.Rows.{modes_of}
+pub use Rattle.gerber_commands.specs.declared.command.Command.TheVariants.{Mode, Operate}
+pub use Rattle.gerber_commands.specs.declared.command.Interpolation.{Interpolation}
+pub use Rattle.gerber_text.proofs.ReaderStepLemmas.{spelled_place}
+pub use Rattle.layer_features.specs.DrawnCopper.{drawn_at, first_parts, uncleared_drawn}
+pub use Rattle.layer_features.specs.declared.counts.FeatureCounts.{FeatureCounts}
+pub use Rattle.layer_state.specs.Shapes.{defined_numbered}
+pub use Rattle.layer_state.specs.declared.flash.What.{What}
+pub use Rattle.layer_state.specs.declared.scan.Scan.{Scan}
+pub use Rattle.std.proofs.lemmas.Bool.{cases_lt}

@@ -1,6 +1,5 @@
 -- What the commands so far make of a layer, with more of them.
-use Rattle.layer_image.proofs.Common.{◌∙◌, ◌++◌, List, [], Result, Ok, Err, OnOk, map, sym, append-nil, map-append, Profile, Entries, WidePad, HasScannedLegal, scanned_pads, KeptParts, taking_pads, without_pads, Keep, HasScannedFor, plain}
-use Rattle.layer_state.specs.declared.scan.Scan.{Scan}
+use Rattle.layer_image.proofs.Common.{◌∙◌, ◌++◌, List, [], Result, Ok, Err, OnOk, map, sym, append-nil, map-append, Profile, Entries, WidePad, HasScannedLegal, scanned_pads, KeptParts, taking_pads, without_pads, Keep, HasScannedFor, plain, Scan}
 
 -- a scan that goes on with more commands
 pub flashes_on : {E : Type 0} (profile : Profile) (of : Keep) (taken : List WidePad) (old new : Scan) (before after : Entries) (r : Result (Unit {0}) E) → HasScannedFor profile of taken old before

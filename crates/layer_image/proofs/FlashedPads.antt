@@ -1,6 +1,5 @@
 -- The list of the pads of some commands has just the pads that one of them makes.
-use Rattle.layer_image.proofs.Common.{◌≡◌, ◌⊎◌, inl, inr, ℕ, zero, suc, ◌<◌, ℤ, List, [], ◌∷◌, ◌++◌, map, Option, None, Some, refl, sym, ap, subst, ◌∙◌, arith, append_assoc, append-nil, ◌≤◌, Contains, filter_map, flat_map, cons_option, flat_map-cons, Contains-append_left, Contains-append_right, Contains-append_cases, GridPoint, Pad, Command, numbers_below, GraphicsState, state_after, PadsAreFlashed, AreFlashPads, ArePadsFrom, ArePadsOf, IsFlashPad, IsPadOf, copies_in, copy_in, flashed_at}
-use Rattle.std.proofs.lemmas.Bool.{cases_lt}
+use Rattle.layer_image.proofs.Common.{◌≡◌, ◌⊎◌, inl, inr, ℕ, zero, suc, ◌<◌, ℤ, List, [], ◌∷◌, ◌++◌, map, Option, None, Some, refl, sym, ap, subst, ◌∙◌, arith, append_assoc, append-nil, ◌≤◌, Contains, filter_map, flat_map, cons_option, flat_map-cons, Contains-append_left, Contains-append_right, Contains-append_cases, GridPoint, Pad, Command, numbers_below, GraphicsState, state_after, PadsAreFlashed, AreFlashPads, ArePadsFrom, ArePadsOf, IsFlashPad, IsPadOf, copies_in, copy_in, flashed_at, cases_lt}
 use Rattle.gerber_commands.specs.declared.command.Action.TheVariants as action
 use Rattle.gerber_commands.specs.declared.command.Command.TheVariants as command
 use Rattle.layer_image.proofs.UniquePads.{flash_once}

@@ -1,13 +1,10 @@
 -- What a reader keeps of a layer, by what is kept of its flashes and of its flashes and contours.
-use Rattle.layer_image.proofs.Common.{◌≡◌, ◌∙◌, ◌+◌, ◌++◌, ℕ, Bool, true, false, cond, List, [], ◌∷◌, Option, Some, None, length, map, refl, sym, ap, subst, arith, append-nil, if◌then◌else◌, cons_option, map-append, Profile, Strict, Wide, Command, Entries, without_places, Pad, WidePad, IsCopperOf, contour_count, counts_of, features_of, flashed_count, is_contour, is_flashed_pad, is_other, other_count, pad_in, strict_feature, strict_kind, wide_features_of, flashes_of, IsScanned, keeps_commands, keeps_drawn, keeps_pads_alone, keeps_rows, keeps_flashes, keeps_pads, without_pads, Flash, Keep, IsKeptOf, counting_profile, flashes_kept, plain}
+use Rattle.layer_image.proofs.Common.{◌≡◌, ◌∙◌, ◌+◌, ◌++◌, ℕ, Bool, true, false, cond, List, [], ◌∷◌, Option, Some, None, length, map, refl, sym, ap, subst, arith, append-nil, if◌then◌else◌, cons_option, map-append, Profile, Strict, Wide, Command, Entries, without_places, Pad, WidePad, IsCopperOf, contour_count, counts_of, features_of, flashed_count, is_contour, is_flashed_pad, is_other, other_count, pad_in, strict_feature, strict_kind, wide_features_of, flashes_of, IsScanned, keeps_commands, keeps_drawn, keeps_pads_alone, keeps_rows, keeps_flashes, keeps_pads, without_pads, Flash, Keep, IsKeptOf, counting_profile, flashes_kept, plain, first_parts, uncleared_drawn, FeatureCounts, What}
 use Rattle.std.proofs.lemmas.List.Sums.{sum_by-cons}
-use Rattle.layer_features.specs.DrawnCopper.{first_parts, uncleared_drawn}
 use Rattle.layer_features.specs.Features.{pads_of}
 use Rattle.layer_state.specs.FileFunction.{file_function_of}
 use Rattle.layer_state.specs.Flashes as flash_lists
 use Rattle.layer_features.specs.declared.copper.CopperParts.{CopperParts}
-use Rattle.layer_features.specs.declared.counts.FeatureCounts.{FeatureCounts}
-use Rattle.layer_state.specs.declared.flash.What.{What}
 use Rattle.layer_state.specs.declared.flash.What.TheVariants as what
 use Rattle.layer_state.specs.declared.flash.FlashKeep.{FlashKeep}
 use Rattle.layer_state.specs.declared.flash.FlashKeep.TheVariants as flash_keep

@@ -1,13 +1,9 @@
 -- The flashes of one command more, and the commands of an operation that was passed.
-use Rattle.layer_image.proofs.Common.{◌≡◌, ◌∙◌, ℕ, ℤ, false, Result, Ok, Err, OnOk, List, [], ◌∷◌, ◌++◌, drop, length, Option, None, Some, sym, ap, subst, append-nil, append_assoc, map-append, Command, text_command, Placed, Entries, item_entries, without_places, Flash, added_flashes, flashes_of, HasScannedLegal, scanned_flashes, without_flashes, state_after}
+use Rattle.layer_image.proofs.Common.{◌≡◌, ◌∙◌, ℕ, ℤ, false, Result, Ok, Err, OnOk, List, [], ◌∷◌, ◌++◌, drop, length, Option, None, Some, sym, ap, subst, append-nil, append_assoc, map-append, Command, text_command, Placed, Entries, item_entries, without_places, Flash, added_flashes, flashes_of, HasScannedLegal, scanned_flashes, without_flashes, state_after, Mode, Operate, Interpolation, modes_of, Scan}
 use Rattle.gerber_commands.specs.declared.command.Action.{Action}
-use Rattle.gerber_commands.specs.declared.command.Command.TheVariants.{Mode, Operate}
-use Rattle.gerber_commands.specs.declared.command.Interpolation.{Interpolation}
-use Rattle.gerber_commands.specs.Rows.{modes_of}
 use Rattle.gerber_text.specs.declared.text_items.TextKind.{TextKind}
 use Rattle.gerber_text.specs.declared.text_items.TextKind.TheVariants as kinds
 use Rattle.gerber_text.proofs.SpelledIsWritten.{bare}
-use Rattle.layer_state.specs.declared.scan.Scan.{Scan}
 use Rattle.layer_state.proofs.OwnFlashes.{drop_first, flashes_of-more}
 
 -- an interpolation makes no flash

@@ -1,5 +1,5 @@
 -- What a reader of a layer in pieces shows of the text so far.
-use Rattle.layer_image.proofs.Common.{◌≡◌, inl, inr, ℕ, List, [], ◌++◌, length, take, drop, append-nil, append_assoc, Bool, true, false, cond, Result, Ok, Err, OnOk, IfOk, IfErr, refl, sym, ap, subst, ◌∙◌, nat_lt, arith, take-length, if◌then◌else◌, take-append-drop, AnswersAlways, Answers, IfFault, Fault, bind_ok, Profile, WordReader, OffsetByte, Entries, commands_by, shown_by, ShowsIn, ReadsIn, SpellsPrefixIn, SpellsBeforeFaultIn, entries_after, StandsIn, FailedIn, FailsWithIn, held_entries, shown_spelled, WidePad, Keep, IsFirstFault, LayerImage, ReadsLayer, ReadsLayerIn, IsKeptOf, KeptLayer, ReadsKeptIn, image_in, LayerContent, counts_of, features_of, flashes_of, pads_of, Strict, IsLegal, HasContent, ShowsLayerFaultIn, text_limit, without_places, broken_rule, HasMetText, LayerStands, keeps_commands}
+use Rattle.layer_image.proofs.Common.{◌≡◌, inl, inr, ℕ, List, [], ◌++◌, length, take, drop, append-nil, append_assoc, Bool, true, false, cond, Result, Ok, Err, OnOk, IfOk, IfErr, refl, sym, ap, subst, ◌∙◌, nat_lt, arith, take-length, if◌then◌else◌, take-append-drop, AnswersAlways, Answers, IfFault, Fault, bind_ok, Profile, WordReader, OffsetByte, Entries, commands_by, shown_by, ShowsIn, ReadsIn, SpellsPrefixIn, SpellsBeforeFaultIn, entries_after, StandsIn, FailedIn, FailsWithIn, held_entries, shown_spelled, WidePad, Keep, IsFirstFault, LayerImage, ReadsLayer, ReadsLayerIn, IsKeptOf, KeptLayer, ReadsKeptIn, image_in, LayerContent, counts_of, features_of, flashes_of, pads_of, Strict, IsLegal, HasContent, ShowsLayerFaultIn, text_limit, without_places, broken_rule, HasMetText, LayerStands, keeps_commands, FeatureCounts}
 use Rattle.grid_units.specs.declared.fault.Fail.{Fail}
 use Rattle.grid_units.specs.declared.fault.Fail.TheVariants as fails
 use Rattle.gerber_text.proofs.FinishLemmas.{holds_shows, shows_reads}
@@ -8,7 +8,6 @@ use Rattle.layer_features.specs.declared.keep.Keep.TheVariants as keep
 use Rattle.layer_image.specs.declared.content.LayerContent.TheVariants as content
 use Rattle.layer_image.specs.declared.reader.LayerReader.{LayerReader}
 use Rattle.layer_image.proofs.KeptLemmas.{counts_of_flashes}
-use Rattle.layer_features.specs.declared.counts.FeatureCounts.{FeatureCounts}
 use Rattle.layer_state.specs.Flashes.{other_count}
 
 short_ok : (t : Bool) (x cs : Entries) (e : Fault) → cond t (Err e) (Ok x) ≡ Ok cs → x ≡ cs

@@ -1,9 +1,8 @@
 -- Each text has an answer.
-use Rattle.layer_image.proofs.Common.{◌≡◌, ◌⊎◌, inl, inr, ℕ, suc, ◌+◌, ◌≤◌, List, [], ◌∷◌, ◌++◌, length, take, Option, Some, None, slice_get, cond, Result, Ok, Err, refl, sym, ap, ◌∙◌, nat_lt, arith, filter_map, cons_option, list_all, option_map, take-length, map-append, violations, violation_at, with_prefixes_from, IsLegal, ◌>>=◌, fault, Fault, Reason, bind_ok, bind_err, Profile, Command, Placed, OffsetByte, bytes_of, first_offset, has_end, Entries, SpellsPrefixIn, ReadsIn, commands_by, is_blank, read_by, shown_by, spelled_in, fault_of, IsFirstFault, EachTextAnswersIn, LayerImage, ReadsLayerIn, image_of, broken_rule, text_limit, item_limit, without_places}
+use Rattle.layer_image.proofs.Common.{◌≡◌, ◌⊎◌, inl, inr, ℕ, suc, ◌+◌, ◌≤◌, List, [], ◌∷◌, ◌++◌, length, take, Option, Some, None, slice_get, cond, Result, Ok, Err, refl, sym, ap, ◌∙◌, nat_lt, arith, filter_map, cons_option, list_all, option_map, take-length, map-append, violations, violation_at, with_prefixes_from, IsLegal, ◌>>=◌, fault, Fault, Reason, bind_ok, bind_err, Profile, Command, Placed, OffsetByte, bytes_of, first_offset, has_end, Entries, SpellsPrefixIn, ReadsIn, commands_by, is_blank, read_by, shown_by, spelled_in, fault_of, IsFirstFault, EachTextAnswersIn, LayerImage, ReadsLayerIn, image_of, broken_rule, text_limit, item_limit, without_places, spelled_place}
 use Rattle.gerber_text.proofs.Some.{some_reading}
 use Rattle.layer_image.proofs.Reading.{legal_layer, kept_all}
 use Rattle.layer_image.proofs.UniqueReading.{rest_place, ended_place}
-use Rattle.gerber_text.proofs.ReaderStepLemmas.{spelled_place}
 
 -- ---- a list is legal, or has a first fault
 

@@ -1,5 +1,5 @@
 -- A text of the strict profile has no clear polarity, so its flashes and contours are those of the strict profile, and all that it draws stands.
-use Rattle.layer_image.proofs.Common.{◌≡◌, ◌∙◌, ◌&&◌, ◌||◌, Bool, true, false, not, List, [], ◌∷◌, ◌++◌, map, Option, None, Some, refl, sym, ap, append-nil, if◌then◌else◌, option_map_or, cons_option, filter_map, flat_map, list_any, map-append, flat_map-cons, filter_map-append, with_prefixes_from, GridPoint, Pad, Command, sayable, without_places, Flash, contour_feature, dark_kind, features_at, flash_feature, strict_feature, strict_feature_of, strict_kind, strict_kind_of, strict_view, wide_features_of, added_flashes, flashes_of, state_after, plain, LayerImage, StrictLayers}
+use Rattle.layer_image.proofs.Common.{◌≡◌, ◌∙◌, ◌&&◌, ◌||◌, Bool, true, false, not, List, [], ◌∷◌, ◌++◌, map, Option, None, Some, refl, sym, ap, append-nil, if◌then◌else◌, option_map_or, cons_option, filter_map, flat_map, list_any, map-append, flat_map-cons, filter_map-append, with_prefixes_from, GridPoint, Pad, Command, sayable, without_places, Flash, contour_feature, dark_kind, features_at, flash_feature, strict_feature, strict_feature_of, strict_kind, strict_kind_of, strict_view, wide_features_of, added_flashes, flashes_of, state_after, plain, LayerImage, StrictLayers, What, drawn_at, uncleared_drawn, other_kind}
 use Rattle.std.specs.Prelude.{option_map}
 use Rattle.grid_units.proofs.BoolLemmas.{both_true, or_is_false}
 use Rattle.pad_shapes.specs.Rounded.{GridRounded}
@@ -11,13 +11,10 @@ use Rattle.gerber_text.proofs.TextIsSayable.{text_sayable}
 use Rattle.pad_shapes.specs.declared.drawn.Drawn.{Drawn}
 use Rattle.layer_features.specs.declared.feature.FeatureKind.{FeatureKind}
 use Rattle.layer_features.specs.declared.feature.FeatureKind.TheVariants as kind
-use Rattle.layer_state.specs.declared.flash.What.{What}
 use Rattle.layer_state.specs.declared.flash.What.TheVariants as what
 use Rattle.pad_shapes.specs.declared.row.Why.TheVariants as why
 use Rattle.layer_features.specs.Clearing.{is_clear_after}
 use Rattle.layer_features.specs.Drawn.{draw_state_after, drawn_by, drawn_of}
-use Rattle.layer_features.specs.DrawnCopper.{drawn_at, uncleared_drawn}
-use Rattle.layer_features.specs.Features.{other_kind}
 use Rattle.layer_features.specs.FurtherPads.{CopperState, contours_in, copper_state_after, flashed_pad}
 use Rattle.layer_features.proofs.ClearingLemmas.{all_uncleared, is_clear, stays_dark_after}
 use Rattle.layer_features.proofs.DarkLayers.{all_features}

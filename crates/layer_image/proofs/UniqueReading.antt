@@ -1,12 +1,10 @@
 -- A text reads in one way.
-use Rattle.layer_image.proofs.Common.{◌≡◌, ◌⊎◌, inl, inr, ℕ, zero, suc, ◌≤◌, ◌+◌, List, [], ◌∷◌, ◌++◌, length, take, drop, Option, Some, None, Bool, true, false, cond, Result, Ok, Err, refl, sym, ap, subst, ◌∙◌, nat_lt, arith, append_assoc, append-nil, list_all, take-append-drop, length-take-le, IsLegal, ◌>>=◌, fault, with_place, Fault, Reason, bind_ok, bind_err, Profile, Command, OffsetByte, offset_bytes, bytes_of, first_offset, has_end, Entries, SpellsPrefixIn, spelled_in, ReadsIn, after_end, commands_by, is_blank, latest_action, may_follow, item_entries, read_by, shown_by, spells_reads, IsFirstFault, LayerImage, ReadsLayerIn, image_of, broken_rule, text_limit, item_limit, without_places}
-use Rattle.std.proofs.lemmas.Bool.{cases_lt}
+use Rattle.layer_image.proofs.Common.{◌≡◌, ◌⊎◌, inl, inr, ℕ, zero, suc, ◌≤◌, ◌+◌, List, [], ◌∷◌, ◌++◌, length, take, drop, Option, Some, None, Bool, true, false, cond, Result, Ok, Err, refl, sym, ap, subst, ◌∙◌, nat_lt, arith, append_assoc, append-nil, list_all, take-append-drop, length-take-le, IsLegal, ◌>>=◌, fault, with_place, Fault, Reason, bind_ok, bind_err, Profile, Command, OffsetByte, offset_bytes, bytes_of, first_offset, has_end, Entries, SpellsPrefixIn, spelled_in, ReadsIn, after_end, commands_by, is_blank, latest_action, may_follow, item_entries, read_by, shown_by, spells_reads, IsFirstFault, LayerImage, ReadsLayerIn, image_of, broken_rule, text_limit, item_limit, without_places, cases_lt, spelled_place}
 use Rattle.grid_units.specs.declared.fault.Reason.TheVariants.{TooLong, AfterEnd, Truncated}
 use Rattle.gerber_text.specs.Meaning.{meaning_in}
 use Rattle.gerber_text.proofs.UniqueReading.{one_read, same_items}
 use Rattle.layer_image.proofs.Reading.{kept_all}
 use Rattle.layer_state.proofs.LegalLists.{first_fault_of_longer, no_fault}
-use Rattle.gerber_text.proofs.ReaderStepLemmas.{spelled_place}
 
 abbrev fault_in : Fault → Option (ℕ × Fault) → Fault
 fault_in d None = d

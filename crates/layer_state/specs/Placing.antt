@@ -1,12 +1,13 @@
 -- How the shape of an aperture lies on the board: mirrored, turned and copied (Gerber format, Aperture transformations LP, LM, LR, LS).
-use Rattle.std.specs.Prelude.{ℕ, ℤ, ◌*ℤ◌, neg_ℤ, pos, Bool, false, not, ◌&&◌, ◌==◌, List, length, map, reverse, Option, None, Some, if◌then◌else◌}
+use Rattle.std.specs.Prelude.{ℕ, ℤ, ◌*ℤ◌, neg_ℤ, pos, Bool, false, not, ◌&&◌, ◌==◌, List, map, reverse, Option, None, Some, if◌then◌else◌}
 use Rattle.std.specs.Option.{option_map_or}
 use Rattle.std.specs.List.{filter_map, flat_map}
 use Rattle.grid_units.specs.Points.{GridPoint}
 use Rattle.grid_units.specs.declared.lengths.Unit.{Unit as Units}
 use Rattle.pad_shapes.specs.Placed.{shape_at}
 use Rattle.pad_shapes.specs.Rounded.{GridRounded, is_outline}
-use Rattle.macro_shapes.specs.Primitives.{is_same, quarter_turns, turned_x, turned_y}
+use Rattle.macro_shapes.specs.Primitives.{quarter_turns, turned_x, turned_y}
+use Rattle.macro_shapes.specs.Shapes.{is_centred_disc}
 use Rattle.gerber_commands.specs.declared.command.StepRepeat.{StepRepeat}
 use Rattle.layer_state.specs.Numbers.{dec_length}
 use Rattle.layer_state.specs.Flashes.{numbers_below}
@@ -50,11 +51,7 @@ rounded_by first others radius = if is_outline first others then Some (record { 
 abbrev pub oriented_shape : Mirroring → ℕ → GridRounded → Option GridRounded
 oriented_shape m turns s = rounded_by (oriented_point m turns s.first) (in_order m (map (oriented_point m turns) s.others)) s.radius
 
--- a shape is a disc about the point of the flash, which is the same however it is mirrored and turned
-abbrev pub is_centred_disc : GridRounded → Bool
-is_centred_disc s = (length s.others == 0) && is_same s.first (record { x = pos 0; y = pos 0 })
-
--- the shape of an aperture as it is flashed while the turn is so many 10^-8 degrees: by other than quarters such a disc alone is turned
+-- the shape of an aperture as it is flashed while the turn is so many 10^-8 degrees: by other than quarters a disc about the point of the flash alone is turned
 abbrev pub turned_shape : Mirroring → ℤ → GridRounded → Option GridRounded
 turned_shape m turn s = option_map_or (λ turns. oriented_shape m turns s) (quarter_turns turn) (if is_centred_disc s then Some s else None)
 

@@ -5,7 +5,7 @@ use Rattle.std.specs.Cmp.Lexicographic.{pointwise}
 use Rattle.grid_units.specs.Lists.{last_set, with_prefixes}
 use Rattle.grid_units.specs.declared.lengths.Unit.{Unit as Units}
 use Rattle.pad_shapes.specs.Rounded.{GridRounded}
-use Rattle.macro_shapes.specs.Primitives.{primitives_of, turned_rectangle}
+use Rattle.macro_shapes.specs.Primitives.{polygon_at, primitives_of, turned_rectangle}
 use Rattle.macro_shapes.specs.Shapes.{shape_of}
 use Rattle.macro_shapes.specs.Macros.{fields_of}
 use Rattle.macro_shapes.specs.declared.fields.Fields.{Fields}
@@ -43,10 +43,11 @@ by_macro (Some unit) (Some pieces) parameters = primitives_shape unit (fields_of
 by_macro _ _ parameters = None
 
 -- the dark primitive inside of a standard aperture without a hole, however it is turned: of an obround as of a rectangle (Gerber format, Rectangle;
--- Obround)
+-- Obround; Polygon)
 unfoldable pub inner_primitive : Units → Standard → List ℤ → Option Primitive
 inner_primitive unit standard.Circle sizes = None
-inner_primitive unit standard.Polygon sizes = None
+inner_primitive unit standard.Polygon sizes =
+    if has_hole sizes 3 then None else polygon_at unit (pos 100000000) (size_at sizes 1) (pos 0) (pos 0) (size_at sizes 0)
 inner_primitive unit _ sizes = if has_hole sizes 2 then None else turned_rectangle unit (size_at sizes 0) (size_at sizes 1) (pos 0) (pos 0)
 
 -- the shape of a standard aperture: that of the primitive inside of it, where it has one and a unit was named before it

@@ -3,9 +3,10 @@
 ghost use Rattle.std.specs.Prelude.{◌≡◌, IfOk, map};
 ghost use Rattle.grid_units.specs.Points.{IsCoordinate};
 ghost use Rattle.macro_shapes.specs.Primitives.{quarter_turns, turned_x, turned_y};
-ghost use Rattle.layer_state.specs.Placing.{in_order, is_centred_disc, is_turned_over, mirrored_point, negated_where, no_mirroring, oriented_point, oriented_shape, turned_point, turned_shape};
+ghost use Rattle.layer_state.specs.Placing.{in_order, is_turned_over, mirrored_point, negated_where, no_mirroring, oriented_point, oriented_shape, turned_point, turned_shape};
 
 use grid_units::{Dec, Point};
+use macro_shapes::is_centred_disc;
 use pad_shapes::{Rounded, SharedRounded};
 use std::alloc::{AllocError, Global};
 
@@ -165,14 +166,6 @@ fn oriented(
         Some(found) => Ok(Some(SharedRounded::new(alloc, found)?)),
         None => Ok(None),
     }
-}
-
-/// Whether a shape is a disc about the point of the flash.
-fn is_centred_disc(shape: &Rounded) -> bool
-    ensures { result ≡ is_centred_disc shape.now }
-{
-    let first = shape.first();
-    shape.others().is_empty() && first.x() == 0 && first.y() == 0
 }
 
 /// The shape of an aperture as it is flashed at a turn in units of 10^-8 degrees: at any if it is a disc about the point of the flash, else at quarters.

@@ -4,7 +4,6 @@ ghost use Rattle.std.specs.Prelude.{◌≡◌, ◌+◌, length, nat_le, sum_by, 
 ghost use Rattle.std.specs.Option.{option_copied};
 ghost use Rattle.layer_state.specs.Shapes.{by_macro, inner_primitive, primitives_shape, standard_shape, within_limits};
 ghost use Rattle.macro_shapes.specs.Macros.{fields_of};
-ghost use Rattle.macro_shapes.specs.Primitives.{side_of};
 ghost use Rattle.macro_shapes.specs.Shapes.{shape_of};
 
 use crate::aperture::{has_hole, size_at};
@@ -12,6 +11,7 @@ use gerber_text::{Pieces, Sizes, Standard};
 use grid_units::{Dec, Text, Unit};
 use macro_shapes::{
     Macro, Primitive, macro_shape as shape_of_primitives, read_macro, read_primitives,
+    regular_polygon, turned_rectangle,
 };
 use pad_shapes::SharedRounded;
 use std::alloc::{AllocError, Global};
@@ -110,26 +110,20 @@ fn macro_shape(
     }
 }
 
-/// A side in pm, or `None` where it is not above 0 or beyond 10 m.
-fn side_of(unit: Unit, side: Dec) -> Option<u64>
-    ensures { result ≡ side_of unit side }
-{
-    if side.units() <= 0 {
-        return None;
-    }
-    Some(side.picometres(unit).ok()?.unsigned_abs())
-}
-
 /// The dark primitive inside of a standard aperture without a hole, however it is turned.
 #[tactic(auto, unfolding(crate::specs::Shapes::inner_primitive))]
 fn inner_primitive(unit: Unit, which: Standard, sizes: &Sizes) -> Option<Primitive>
     ensures { result ≡ inner_primitive unit which sizes.now }
 {
+    let one = Dec::from_units(100_000_000).unwrap();
+    let zero = Dec::from_units(0).unwrap();
+    let (first, second) = (size_at(sizes, 0), size_at(sizes, 1));
     match which {
+        Standard::Polygon if !has_hole(sizes, 3) => {
+            regular_polygon(unit, &[one, second, zero, zero, first, zero])
+        }
         Standard::Rectangle | Standard::Obround if !has_hole(sizes, 2) => {
-            let width = side_of(unit, size_at(sizes, 0))?;
-            let height = side_of(unit, size_at(sizes, 1))?;
-            Some(Primitive::Turned(width.min(height)))
+            turned_rectangle(unit, first, second, zero, zero)
         }
         _ => None,
     }

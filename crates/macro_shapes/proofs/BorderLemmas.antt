@@ -1,5 +1,5 @@
 -- The border of a polygon: no circle at a corner and no vector line along an edge is smaller.
-use Rattle.macro_shapes.proofs.Common.{◌≡◌, ℕ, suc, ℤ, pos, ◌*◌, ◌/◌, ◌≤◌, ◌<◌, ◌≤ℤ◌, ◌+ℤ◌, ◌-ℤ◌, ◌*ℤ◌, unsigned_abs, max, min, true, List, [], ◌∷◌, Option, None, Some, refl, sym, ap, subst, ◌∙◌, ◌⊎◌, inl, inr, arith, le_trans, ◌&&◌, ◌||◌, nat_le, int_lt, All, Contains, fold, int_eq, and_parts, or_cases, leb-true, Decides-int_eq, ints, All-nil, All-cons, mul-le, same_Some, cond_some, GridPoint, square, square_distance, square-le, square_distance_comm, GridRounded, Edge, edges, corners, cross, along, square_edge, is_beside, is_z, is_n, is_add, is_sub, is_mul, same, length_is, edge, IsInPrimitive, IsInLine, is_same, diameter_at, width_along, disc_at, line_along, greatest, least, discs_in_turn, Primitive}
+use Rattle.macro_shapes.proofs.Common.{◌≡◌, ℕ, suc, ℤ, pos, ◌*◌, ◌/◌, ◌≤◌, ◌<◌, ◌≤ℤ◌, ◌+ℤ◌, ◌-ℤ◌, ◌*ℤ◌, unsigned_abs, max, min, true, List, [], ◌∷◌, Option, None, Some, refl, sym, ap, subst, ◌∙◌, ◌⊎◌, inl, inr, arith, le_trans, ◌&&◌, ◌||◌, nat_le, int_lt, All, Contains, fold, int_eq, and_parts, or_cases, leb-true, Decides-int_eq, ints, All-nil, All-cons, mul-le, same_Some, cond_some, GridPoint, square, square_distance, square-le, square_distance_comm, GridRounded, Edge, edges, corners, cross, along, square_edge, is_beside, is_z, is_n, is_add, is_sub, is_mul, same, length_is, edge, IsInPrimitive, IsInLine, is_same, diameter_at, width_along, disc_at, line_along, chosen, least, discs_in_turn, Primitive}
 use Rattle.macro_shapes.proofs.BordersInTurn.{disc_is, line_is}
 use Rattle.pad_shapes.proofs.PartsLemmas.{along_back_z}
 use Rattle.macro_shapes.specs.declared.primitive.Primitive.TheVariants as primitive
@@ -34,28 +34,28 @@ fold_least f start (x ∷ xs) d h =
 larger : (m n : ℕ) → (max m n ≡ m) ⊎ (max m n ≡ n)
 larger m n = grind arith
 
-greatest_cases : (a b : Option ℕ) (d : ℕ) → greatest a b ≡ Some d → (a ≡ Some d) ⊎ (b ≡ Some d)
-greatest_cases None b d h = inr h
-greatest_cases (Some a) None d h = inl h
-greatest_cases (Some a) (Some b) d h =
-    let e : max a b ≡ d = same_Some (max a b) d h in
-    elim (larger a b) [ inl first ↦ inl (ap Some (sym first ∙ e)) | inr second ↦ inr (ap Some (sym second ∙ e)) ]
+chosen_cases : {V : Type 0} (choose : V → V → V) → ((a b : V) → (choose a b ≡ a) ⊎ (choose a b ≡ b)) → (a b : Option V) (d : V) → chosen choose a b ≡ Some d → (a ≡ Some d) ⊎ (b ≡ Some d)
+chosen_cases choose one None b d h = inr h
+chosen_cases choose one (Some a) None d h = inl h
+chosen_cases choose one (Some a) (Some b) d h =
+    let e : choose a b ≡ d = same_Some (choose a b) d h in
+    elim (one a b) [ inl first ↦ inl (ap Some (sym first ∙ e)) | inr second ↦ inr (ap Some (sym second ∙ e)) ]
 
--- a primitive that gives a size
-record IsGiven (f : Primitive → Option ℕ) (qs : List Primitive) (d : ℕ) : Type 0 where
-  q : Primitive
-  among : Contains qs q
-  gives : f q ≡ Some d
+-- a primitive that gives a value
+pub record IsGiven {V : Type 0} (f : Primitive → Option V) (qs : List Primitive) (d : V) : Type 0 where
+  pub q : Primitive
+  pub among : Contains qs q
+  pub gives : f q ≡ Some d
 
-fold_greatest : (f : Primitive → Option ℕ) (start : Option ℕ) (qs : List Primitive) (d : ℕ) → fold (λ found q. greatest found (f q)) start qs ≡ Some d → (start ≡ Some d) ⊎ IsGiven f qs d
-fold_greatest f start [] d h = inl h
-fold_greatest f start (q ∷ qs) d h = elim (fold_greatest f (greatest start (f q)) qs d h) [
-  | inl first ↦ elim (greatest_cases start (f q) d first) [ inl before ↦ inl before | inr here ↦ inr (record { q = q; among = (0, omega arith, refl); gives = here }) ]
+fold_chosen : {V : Type 0} (choose : V → V → V) → ((a b : V) → (choose a b ≡ a) ⊎ (choose a b ≡ b)) → (f : Primitive → Option V) (start : Option V) (qs : List Primitive) (d : V) → fold (λ found q. chosen choose found (f q)) start qs ≡ Some d → (start ≡ Some d) ⊎ IsGiven f qs d
+fold_chosen choose one f start [] d h = inl h
+fold_chosen choose one f start (q ∷ qs) d h = elim (fold_chosen choose one f (chosen choose start (f q)) qs d h) [
+  | inl first ↦ elim (chosen_cases choose one start (f q) d first) [ inl before ↦ inl before | inr here ↦ inr (record { q = q; among = (0, omega arith, refl); gives = here }) ]
   | inr later ↦ inr (record { q = later.q; among = (suc later.among.0, omega (arith, later.among.1), later.among.2); gives = later.gives })
 ]
 
-given : (f : Primitive → Option ℕ) (qs : List Primitive) (d : ℕ) → fold (λ found q. greatest found (f q)) None qs ≡ Some d → IsGiven f qs d
-given f qs d h = elim (fold_greatest f None qs d h) [ inl none ↦ none_some d none | inr some ↦ some ]
+pub given : {V : Type 0} (choose : V → V → V) → ((a b : V) → (choose a b ≡ a) ⊎ (choose a b ≡ b)) → (f : Primitive → Option V) (qs : List Primitive) (d : V) → fold (λ found q. chosen choose found (f q)) None qs ≡ Some d → IsGiven f qs d
+given choose one f qs d h = elim (fold_chosen choose one f None qs d h) [ inl none ↦ none_some d none | inr some ↦ some ]
 
 -- ---- circles and lines
 
@@ -169,12 +169,12 @@ IsInSome qs p = (q : Primitive) × Contains qs q × IsInPrimitive q p
 
 pub near_corner : (qs : List Primitive) (v p : GridPoint) (size : ℕ) → IsAtLeast (disc_at qs v) size → square_distance p v ≤ square (size / 2) → IsInSome qs p
 near_corner qs v p size h near =
-    let g = given (diameter_at v) qs h.size (disc_is qs v ∙ h.found) in
+    let g = given max larger (diameter_at v) qs h.size (disc_is qs v ∙ h.found) in
     (g.q, g.among, circle_at v p size h.size g.q g.gives h.enough near)
 
 pub near_edge : (qs : List Primitive) (e : Edge) (p : GridPoint) (size : ℕ) → IsAtLeast (line_along qs e) size → is_beside e (size / 2) p ≡ true → IsInSome qs p
 near_edge qs e p size h near =
-    let g = given (width_along e) qs h.size (line_is qs e ∙ h.found) in
+    let g = given max larger (width_along e) qs h.size (line_is qs e ∙ h.found) in
     (g.q, g.among, line_at e p size h.size g.q g.gives h.enough near)
 
 pub corners_given : (qs : List Primitive) (r : GridRounded) (size : ℕ) → discs_in_turn qs r ≡ Some size → All (λ v. IsAtLeast (disc_at qs v) size) (corners r)

@@ -1,35 +1,40 @@
 -- The border that is found size by size is the least of the whole list.
-use Rattle.macro_shapes.proofs.Common.{◌≡◌, ℕ, max, min, Bool, true, false, cond, eqb, List, [], ◌∷◌, ◌++◌, length, map, Option, None, Some, refl, sym, ap, ◌∙◌, cons_option, filter_map, fold, reduce, GridPoint, GridRounded, Edge, corners, edges, diameter_at, width_along, disc_at, line_along, least_of, border, cross_border, rounded_of, rectangle_along, segment, line_shape, greatest, least, disc_in_turn, line_in_turn, discs_in_turn, border_in_turn, Primitive}
+use Rattle.macro_shapes.proofs.Common.{◌≡◌, ℕ, max, min, Bool, true, false, cond, eqb, List, [], ◌∷◌, ◌++◌, length, map, Option, None, Some, refl, sym, ap, ◌∙◌, cons_option, filter_map, fold, reduce, GridPoint, GridRounded, Edge, corners, edges, diameter_at, width_along, disc_at, line_along, least_of, border, cross_border, rounded_of, rectangle_along, segment, line_shape, chosen, least, disc_in_turn, line_in_turn, discs_in_turn, border_in_turn, Primitive}
+use Rattle.macro_shapes.specs.Inner.Borders.{shape_in_turn}
+use Rattle.macro_shapes.specs.Shapes.{shape_from, shape_of, wider}
 use Rattle.std.specs.Option.{option_map_or}
 use Rattle.std.proofs.lemmas.List.Sums.{fold-append}
 use Rattle.std.proofs.lemmas.List.Folds.{fold-map}
 
--- ---- the greatest
+-- ---- what is chosen
 
-greatest_from : {X : Type 0} (f : X → Option ℕ) (xs : List X) (a : ℕ) → fold (λ found x. greatest found (f x)) (Some a) xs ≡ Some (fold max a (filter_map f xs))
-greatest_from f [] a = refl
-greatest_from f (x ∷ xs) a = by (f x) (greatest_from f xs)
+chosen_from : {X V : Type 0} (choose : V → V → V) (f : X → Option V) (xs : List X) (a : V) → fold (λ found x. chosen choose found (f x)) (Some a) xs ≡ Some (fold choose a (filter_map f xs))
+chosen_from choose f [] a = refl
+chosen_from {V = V} choose f (x ∷ xs) a = by (f x) (chosen_from choose f xs)
   where
-    by : (o : Option ℕ) → ((k : ℕ) → fold (λ found x. greatest found (f x)) (Some k) xs ≡ Some (fold max k (filter_map f xs)))
-        → fold (λ found x. greatest found (f x)) (greatest (Some a) o) xs ≡ Some (fold max a (cons_option o (filter_map f xs)))
+    by : (o : Option V) → ((k : V) → fold (λ found x. chosen choose found (f x)) (Some k) xs ≡ Some (fold choose k (filter_map f xs)))
+        → fold (λ found x. chosen choose found (f x)) (chosen choose (Some a) o) xs ≡ Some (fold choose a (cons_option o (filter_map f xs)))
     by None rest = rest a
-    by (Some b) rest = rest (max a b)
+    by (Some b) rest = rest (choose a b)
 
-greatest_of : {X : Type 0} (f : X → Option ℕ) (xs : List X) → fold (λ found x. greatest found (f x)) None xs ≡ reduce max (filter_map f xs)
-greatest_of f [] = refl
-greatest_of f (x ∷ xs) = by (f x) (greatest_of f xs)
+chosen_of : {X V : Type 0} (choose : V → V → V) (f : X → Option V) (xs : List X) → fold (λ found x. chosen choose found (f x)) None xs ≡ reduce choose (filter_map f xs)
+chosen_of choose f [] = refl
+chosen_of {V = V} choose f (x ∷ xs) = by (f x) (chosen_of choose f xs)
   where
-    by : (o : Option ℕ) → fold (λ found x. greatest found (f x)) None xs ≡ reduce max (filter_map f xs) → fold (λ found x. greatest found (f x)) (greatest None o) xs ≡ reduce max (cons_option o (filter_map f xs))
+    by : (o : Option V) → fold (λ found x. chosen choose found (f x)) None xs ≡ reduce choose (filter_map f xs) → fold (λ found x. chosen choose found (f x)) (chosen choose None o) xs ≡ reduce choose (cons_option o (filter_map f xs))
     by None rest = rest
-    by (Some b) rest = greatest_from f xs b
+    by (Some b) rest = chosen_from choose f xs b
+
+pub shape_is : (qs : List Primitive) → shape_in_turn qs qs ≡ shape_of qs
+shape_is qs = chosen_of wider (shape_from qs) qs
 
 pub disc_is : (qs : List Primitive) (v : GridPoint) → disc_in_turn qs v ≡ disc_at qs v
 unfolding disc_at
-disc_is qs v = greatest_of (diameter_at v) qs
+disc_is qs v = chosen_of max (diameter_at v) qs
 
 pub line_is : (qs : List Primitive) (e : Edge) → line_in_turn qs e ≡ line_along qs e
 unfolding line_along
-line_is qs e = greatest_of (width_along e) qs
+line_is qs e = chosen_of max (width_along e) qs
 
 -- ---- the least
 

@@ -2,7 +2,7 @@
 pub use Rattle.std.proofs.Common.{Bool, List, None, Option, Some, [], add-one, ap, append_assoc, arith, cond, drop, eqb, false, get_or, inl, inr, le_trans, leb, length, ltb, map, max, min, negsuc, not, pos, refl, reverse, set, subst, suc, sym, take, true, unsigned_abs, w64, zero, ℕ, ℤ, ◌%◌, ◌*ℤ◌, ◌*◌, ◌++◌, ◌+ℤ◌, ◌+◌, ◌-ℤ◌, ◌-◌, ◌/◌, ◌<ℤ◌, ◌<◌, ◌^◌, ◌↔◌, ◌∙◌, ◌∷◌, ◌≡◌, ◌≤ℤ◌, ◌≤◌, ◌⊎◌}
 pub use Rattle.grid_units.proofs.TriangleInequalities.{le_of_squares, square-le, square_distance_comm}
 pub use Rattle.grid_units.specs.Points.{GridPoint, IsCoordinate, max_coordinate, square, square_distance}
-pub use Rattle.macro_shapes.specs.Inner.Borders.{border_in_turn, disc_in_turn, discs_in_turn, greatest, least, line_in_turn}
+pub use Rattle.macro_shapes.specs.Inner.Borders.{border_in_turn, chosen, disc_in_turn, discs_in_turn, least, line_in_turn}
 pub use Rattle.macro_shapes.specs.Inner.Pieces.{all_decimals, all_values, fields_from, on_piece}
 unfoldable pub use Rattle.macro_shapes.specs.Inner.Pieces.{parameters_of}
 pub use Rattle.macro_shapes.proofs.PiecesLemmas.{decimals_next, macro_exactly, no_macro, value_exactly}

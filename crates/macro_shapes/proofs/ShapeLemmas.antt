@@ -4,10 +4,11 @@ use Rattle.macro_shapes.specs.Primitives.{IsInCircle}
 use Rattle.std.specs.Prelude.{unwrap_or}
 use Rattle.std.specs.Option.{option_map_or}
 use Rattle.pad_shapes.specs.Inner.RoundedSets.{one_corner_is_disc, polygon_is_left_of_edges}
-use Rattle.macro_shapes.proofs.BordersInTurn.{border_is}
-use Rattle.macro_shapes.proofs.BorderLemmas.{IsAtLeast, IsInSome, same_point, in_circle, near_corner, near_edge, corners_given, edges_given}
+use Rattle.macro_shapes.proofs.BordersInTurn.{border_is, shape_is}
+use Rattle.macro_shapes.proofs.BorderLemmas.{IsAtLeast, IsInSome, given, same_point, in_circle, near_corner, near_edge, corners_given, edges_given}
 use Rattle.macro_shapes.proofs.SidesLemmas.{cond_is, with_radius, rounded_parts, rectangle_inside, about_sides, half_side, both_sides}
 use Rattle.macro_shapes.proofs.CrossLemmas.{cross_inside}
+use Rattle.macro_shapes.specs.Shapes.{holds, is_centred_disc, shape_from, wider}
 use Rattle.macro_shapes.specs.declared.primitive.Primitive.TheVariants as primitive
 
 -- ---- borders
@@ -39,9 +40,6 @@ bordered qs first (b ∷ bs) size h outline p inside =
 
 -- ---- circles, and lines with round ends
 
-first_of_list : (q : Primitive) (qs : List Primitive) → Contains (q ∷ qs) q
-first_of_list q qs = (0, omega arith, refl)
-
 disc_inside : (c : GridPoint) (d : ℕ) (s : GridRounded) → rounded_of c [] d ≡ Some s → (p : GridPoint) → IsInRounded s p → IsInCircle c d p
 disc_inside c d s h p inside =
     let parts = rounded_parts c [] d s h in
@@ -71,11 +69,11 @@ rounded_line qs a b size false h outline p inside = elim (bordered qs a (b ∷ [
 
 -- ---- centre lines
 
-centre_inside : (qs : List Primitive) (c : GridPoint) (w h : ℕ) (s : GridRounded) → rectangle_about c w h ≡ Some s → (p : GridPoint) → IsInRounded s p → IsInSome (primitive.CentreLine c w h ∷ qs) p
-centre_inside qs c w h s e p inside =
+centre_inside : (qs : List Primitive) (c : GridPoint) (w h : ℕ) → Contains qs (primitive.CentreLine c w h) → (s : GridRounded) → rectangle_about c w h ≡ Some s → (p : GridPoint) → IsInRounded s p → IsInSome qs p
+centre_inside qs c w h among s e p inside =
     let sides = about_sides c w h s e in
     let box = rectangle_inside (c.x -ℤ pos (w / 2)) (c.y -ℤ pos (h / 2)) (c.x +ℤ pos (w / 2)) (c.y +ℤ pos (h / 2)) s sides (both_sides c.x (w / 2)) (both_sides c.y (h / 2)) p inside in
-    (primitive.CentreLine c w h, first_of_list (primitive.CentreLine c w h) qs, (half_side p.x c.x w box.left_of_it box.right_of_it, half_side p.y c.y h box.below_it box.above_it))
+    (primitive.CentreLine c w h, among, (half_side p.x c.x w box.left_of_it box.right_of_it, half_side p.y c.y h box.below_it box.above_it))
 
 -- a second rectangle that crosses the first one
 record IsSecond (qs : List Primitive) (c : GridPoint) (w h : ℕ) (other : ℕ × ℕ) : Type 0 where
@@ -93,12 +91,9 @@ second_is (q ∷ primitive.CentreLine a v g ∷ qs) c w h other e =
 second_is _ c w h other e = absurd cc
 
 -- a centre line, with the one that crosses it or alone
-centre_shape_inside : (qs : List Primitive) (c : GridPoint) (w h : ℕ) (s : GridRounded) → centre_shape (primitive.CentreLine c w h ∷ qs) c w h ≡ Some s → (p : GridPoint) → IsInRounded s p → IsInSome (primitive.CentreLine c w h ∷ qs) p
-centre_shape_inside qs c w h s made p inside = by (option_and_then (cross_shape all c w h) (second_crossing c w h all)) refl made
+centre_shape_inside : (all : List Primitive) (c : GridPoint) (w h : ℕ) → Contains all (primitive.CentreLine c w h) → (s : GridRounded) → centre_shape all c w h ≡ Some s → (p : GridPoint) → IsInRounded s p → IsInSome all p
+centre_shape_inside all c w h among s made p inside = by (option_and_then (cross_shape all c w h) (second_crossing c w h all)) refl made
   where
-    all : List Primitive
-    all = primitive.CentreLine c w h ∷ qs
-
     crossed : (t : GridRounded) → t ≡ s → option_and_then (cross_shape all c w h) (second_crossing c w h all) ≡ Some t → IsInSome all p
     crossed t same e =
         option_and_then_some (cross_shape all c w h) (second_crossing c w h all) t e (λ other second shape.
@@ -106,13 +101,13 @@ centre_shape_inside qs c w h s made p inside = by (option_and_then (cross_shape 
         elim (cross_inside all c w h other t is.crosses shape p (subst (λ z. IsInRounded z p) (sym same) inside)) [
           | inl some ↦ some
           | inr arms ↦ elim arms [
-            | inl first ↦ (primitive.CentreLine c w h, first_of_list (primitive.CentreLine c w h) qs, first)
+            | inl first ↦ (primitive.CentreLine c w h, among, first)
             | inr other ↦ is.among p other
           ]
         ])
 
     by : (o : Option GridRounded) → option_and_then (cross_shape all c w h) (second_crossing c w h all) ≡ o → option_or o (rectangle_about c w h) ≡ Some s → IsInSome all p
-    by None e r = centre_inside qs c w h s r p inside
+    by None e r = centre_inside all c w h among s r p inside
     by (Some t) e r = crossed t (same_Some t s r) e
 
 -- ---- lines along an axis
@@ -275,38 +270,49 @@ line_inside a b w s h p inside = by (not (nat_le w max_coordinate)) (int_eq a.y 
 polygon_inside : (r : GridRounded) → is_convex r ≡ true → (p : GridPoint) → IsNear (corners r) 0 p → is_deep_inside r 0 p ≡ true
 polygon_inside r convex p h = and_from (has_area r) (is_deep_left_of_all r 0 p) (area_of r convex) ((polygon_is_left_of_edges r convex p).0 h)
 
-outline_inside : (qs : List Primitive) (r : GridRounded) (o : Option ℕ) (s : GridRounded) → border (primitive.Outline r ∷ qs) r ≡ o → with_border r (unwrap_or o 0) ≡ Some s → (p : GridPoint) → IsInRounded s p → IsInSome (primitive.Outline r ∷ qs) p
+outline_inside : (qs : List Primitive) (r : GridRounded) → Contains qs (primitive.Outline r) → (o : Option ℕ) (s : GridRounded) → border qs r ≡ o → with_border r (unwrap_or o 0) ≡ Some s → (p : GridPoint) → IsInRounded s p → IsInSome qs p
 unfolding border
-outline_inside qs r None s e h p inside = by r.others (cond_is (nat_lt 1 (length r.others) || nat_lt 0 0) (rounded_of r.first r.others 0) s h) refl
+outline_inside qs r among None s e h p inside = by r.others (cond_is (nat_lt 1 (length r.others) || nat_lt 0 0) (rounded_of r.first r.others 0) s h) refl
   where
-    by : (others : List GridPoint) → ((nat_lt 1 (length others) || nat_lt 0 0) ≡ true) × (rounded_of r.first others 0 ≡ Some s) → others ≡ r.others → IsInSome (primitive.Outline r ∷ qs) p
+    by : (others : List GridPoint) → ((nat_lt 1 (length others) || nat_lt 0 0) ≡ true) × (rounded_of r.first others 0 ≡ Some s) → others ≡ r.others → IsInSome qs p
     by [] h same_others = absurd (false≢true h.0)
     by (b ∷ []) h same_others = absurd (false≢true h.0)
     by (b ∷ c ∷ rest) h same_others =
         let parts = rounded_parts r.first (b ∷ c ∷ rest) 0 s h.1 in
         let deep = polygon_inside (with_radius r.first (b ∷ c ∷ rest) 0) parts.1 p (subst (λ z. IsInRounded z p) (sym parts.0) inside) in
-        (primitive.Outline r, first_of_list (primitive.Outline r) qs, subst (λ l. is_deep_inside (with_radius r.first l 0) 0 p ≡ true) same_others deep)
-outline_inside qs r (Some size) s e h p inside =
+        (primitive.Outline r, among, subst (λ l. is_deep_inside (with_radius r.first l 0) 0 p ≡ true) same_others deep)
+outline_inside qs r among (Some size) s e h p inside =
     let parts = rounded_parts r.first r.others size s (cond_is (nat_lt 1 (length r.others) || nat_lt 0 size) (rounded_of r.first r.others size) s h).1 in
-    elim (bordered (primitive.Outline r ∷ qs) r.first r.others size e parts.1 p (subst (λ z. IsInRounded z p) (sym parts.0) inside)) [
+    elim (bordered qs r.first r.others size e parts.1 p (subst (λ z. IsInRounded z p) (sym parts.0) inside)) [
       | inl some ↦ some
-      | inr deep ↦ (primitive.Outline r, first_of_list (primitive.Outline r) qs, deep)
+      | inr deep ↦ (primitive.Outline r, among, deep)
     ]
 
 -- ---- the law
 
-vector_inside : (qs : List Primitive) (a b : GridPoint) (w : ℕ) (o : Option ℕ) (s : GridRounded) → border (primitive.VectorLine a b w ∷ qs) (segment a b) ≡ o → option_map_or (rounded_of a (segment a b).others) o (rectangle_along a b w) ≡ Some s → (p : GridPoint) → IsInRounded s p
-    → IsInSome (primitive.VectorLine a b w ∷ qs) p
-vector_inside qs a b w None s e h p inside = (primitive.VectorLine a b w, first_of_list (primitive.VectorLine a b w) qs, line_inside a b w s h p inside)
-vector_inside qs a b w (Some size) s e h p inside =
+vector_inside : (qs : List Primitive) (a b : GridPoint) (w : ℕ) → Contains qs (primitive.VectorLine a b w) → (o : Option ℕ) (s : GridRounded) → border qs (segment a b) ≡ o → option_map_or (rounded_of a (segment a b).others) o (rectangle_along a b w) ≡ Some s → (p : GridPoint)
+    → IsInRounded s p → IsInSome qs p
+vector_inside qs a b w among None s e h p inside = (primitive.VectorLine a b w, among, line_inside a b w s h p inside)
+vector_inside qs a b w among (Some size) s e h p inside =
     let parts = rounded_parts a (segment a b).others size s h in
-    rounded_line (primitive.VectorLine a b w ∷ qs) a b size (is_same a b) e parts.1 p (subst (λ z. IsInRounded z p) (sym parts.0) inside)
+    rounded_line qs a b size (is_same a b) e parts.1 p (subst (λ z. IsInRounded z p) (sym parts.0) inside)
+
+-- the shape by one of the primitives
+inside_by : (qs : List Primitive) (q : Primitive) → Contains qs q → (s : GridRounded) → shape_from qs q ≡ Some s → (p : GridPoint) → IsInRounded s p → IsInSome qs p
+inside_by qs (primitive.Circle c d) among s h p inside = (primitive.Circle c d, among, disc_inside c d s h p inside)
+inside_by qs (primitive.VectorLine a b w) among s h p inside = vector_inside qs a b w among (border qs (segment a b)) s refl h p inside
+inside_by qs (primitive.CentreLine c w l) among s h p inside = centre_shape_inside qs c w l among s h p inside
+inside_by qs (primitive.Outline r) among s h p inside = outline_inside qs r among (border qs r) s refl h p inside
+inside_by qs (primitive.Turned d) among s h p inside = (primitive.Turned d, among, disc_inside (record { x = pos 0; y = pos 0 }) d s h p inside)
+
+one_of_two : (a b : GridRounded) → (wider a b ≡ a) ⊎ (wider a b ≡ b)
+one_of_two a b = by (not (is_centred_disc a) && holds b a)
+  where
+    by : (t : Bool) → (cond t b a ≡ a) ⊎ (cond t b a ≡ b)
+    by true = inr refl
+    by false = inl refl
 
 pub shape_is_in_primitives : ShapeIsInPrimitives
-shape_is_in_primitives [] s h p inside = absurd cc
-shape_is_in_primitives (primitive.Circle c d ∷ qs) s h p inside = (primitive.Circle c d, first_of_list (primitive.Circle c d) qs, disc_inside c d s h p inside)
-shape_is_in_primitives (primitive.VectorLine a b w ∷ qs) s h p inside =
-    vector_inside qs a b w (border (primitive.VectorLine a b w ∷ qs) (segment a b)) s refl h p inside
-shape_is_in_primitives (primitive.CentreLine c w l ∷ qs) s h p inside = centre_shape_inside qs c w l s h p inside
-shape_is_in_primitives (primitive.Outline r ∷ qs) s h p inside = outline_inside qs r (border (primitive.Outline r ∷ qs) r) s refl h p inside
-shape_is_in_primitives (primitive.Turned d ∷ qs) s h p inside = (primitive.Turned d, first_of_list (primitive.Turned d) qs, disc_inside (record { x = pos 0; y = pos 0 }) d s h p inside)
+shape_is_in_primitives qs s h p inside =
+    let one = given wider one_of_two (shape_from qs) qs s (shape_is qs ∙ h) in
+    inside_by qs one.q one.among s one.gives p inside

@@ -1,11 +1,11 @@
 -- The shape of a macro: a rounded polygon that is inside of its primitives.
 use Rattle.std.specs.Prelude.{◌≡◌, ℕ, ℤ, pos, ◌+ℤ◌, ◌-ℤ◌, ◌/◌, max, min, Bool, ◌&&◌, ◌||◌, ◌==◌, not, nat_le, nat_lt, List, [], ◌∷◌, ◌++◌, length, map, slice_get, if◌then◌else◌, Option, None, Some, is_none, option_and_then, unwrap_or}
 use Rattle.std.specs.Int.{abs_diff, int_min, int_max}
-use Rattle.std.specs.List.{filter_map, list_any, reduce, Contains}
+use Rattle.std.specs.List.{filter_map, list_all, list_any, reduce, Contains}
 use Rattle.std.specs.Option.{option_map_or, option_or}
 use Rattle.std.specs.Ordering.{int_eq}
 use Rattle.grid_units.specs.Points.{GridPoint, max_coordinate}
-use Rattle.pad_shapes.specs.Rounded.{GridRounded, Edge, corners, edges, IsInRounded}
+use Rattle.pad_shapes.specs.Rounded.{GridRounded, Edge, corners, edges, rounded_covers, IsInRounded}
 use Rattle.macro_shapes.specs.Primitives.{IsInPrimitive, grid_point, is_same, rounded_of}
 use Rattle.macro_shapes.specs.declared.primitive.Primitive.{Primitive}
 use Rattle.macro_shapes.specs.declared.primitive.Primitive.TheVariants as primitive
@@ -101,9 +101,9 @@ abbrev pub centre_shape : List Primitive → GridPoint → ℕ → ℕ → Optio
 centre_shape qs c width height =
     option_or (option_and_then (cross_shape qs c width height) (option_and_then (crossing_sides c width height) (slice_get qs 1))) (rectangle_about c width height)
 
--- ---- shapes by the first primitive
+-- ---- shapes by each primitive
 
--- the shape of these primitives by this one of them
+-- the shape of these primitives by this one of them; the others, all dark, only add to it
 abbrev pub shape_from : List Primitive → Primitive → Option GridRounded
 shape_from qs (primitive.Circle centre diameter) = rounded_of centre [] diameter
 shape_from qs (primitive.VectorLine from to width) = line_shape qs from to width
@@ -111,9 +111,22 @@ shape_from qs (primitive.CentreLine centre width height) = centre_shape qs centr
 shape_from qs (primitive.Outline corners) = with_border corners (unwrap_or (border qs corners) 0)
 shape_from qs (primitive.Turned inner) = rounded_of (record { x = pos 0; y = pos 0 }) [] inner
 
--- the shape of a macro with these primitives, by its first one; the others, all dark, only add to it
+-- a shape holds another one: it covers the disc about each of its corners that reaches as far round it as its copper does
+abbrev pub holds : GridRounded → GridRounded → Bool
+holds r other = list_all (λ c. rounded_covers r c other.radius) (corners other)
+
+-- a shape is a disc about the point of the flash, which is the same however it is mirrored and turned
+abbrev pub is_centred_disc : GridRounded → Bool
+is_centred_disc r = (length r.others == 0) && is_same r.first (record { x = pos 0; y = pos 0 })
+
+-- the second of two shapes where it holds the first one and that is no such disc, else the first
+abbrev pub wider : GridRounded → GridRounded → GridRounded
+wider a b = if not (is_centred_disc a) && holds b a then b else a
+
+-- the shape of a macro with these primitives: by the first of them that gives one, and by each later one in turn whose shape holds the one before it; a disc about the point of the
+-- flash stays, since it counts at any turn
 abbrev pub shape_of : List Primitive → Option GridRounded
-shape_of qs = option_and_then (shape_from qs) (slice_get qs 0)
+shape_of qs = reduce wider (filter_map (shape_from qs) qs)
 
 -- each point of a macro's shape is a point of one of its primitives
 abbrev pub ShapeIsInPrimitives : Type 0

@@ -51,8 +51,8 @@ fn inner_diameter(diameter: u64, cosine: u64) -> u64
     (u128::from(diameter) * u128::from(cosine) / ONE) as u64
 }
 
-/// The regular polygon that values spell, with any angle at the end.
-pub(crate) fn polygon(unit: Unit, values: &[Dec]) -> Option<Primitive>
+/// The regular polygon that values spell, with any angle at the end (Gerber format, Polygon, code 5).
+pub fn polygon(unit: Unit, values: &[Dec]) -> Option<Primitive>
     ensures { result ≡ primitive_by_code code.Polygon unit values.now }
 {
     match values {

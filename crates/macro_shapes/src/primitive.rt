@@ -251,8 +251,8 @@ fn rectangle_at(unit: Unit, turns: u8, width: Dec, height: Dec, x: Dec, y: Dec) 
     Some(with_sides(turns, centre, width, height))
 }
 
-/// A centre line about the point of the flash that is turned by any angle.
-fn turned_rectangle(unit: Unit, width: Dec, height: Dec, x: Dec, y: Dec) -> Option<Primitive>
+/// A centre line about the point of the flash that is turned by any angle (Gerber format, Center line, code 21).
+pub fn turned_rectangle(unit: Unit, width: Dec, height: Dec, x: Dec, y: Dec) -> Option<Primitive>
     ensures { result ≡ turned_rectangle unit width height x y }
 {
     if x.units() != 0 || y.units() != 0 {

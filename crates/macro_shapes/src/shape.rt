@@ -1,15 +1,17 @@
 //! The shape of a macro: a rounded polygon that is inside of its primitives.
 
-ghost use Rattle.std.specs.Prelude.{◌≡◌, IfOk, option_and_then, unwrap_or};
+ghost use Rattle.std.specs.Prelude.{◌≡◌, IfOk, max, option_and_then, unwrap_or};
+ghost use Rattle.std.specs.List.{list_all};
+ghost use Rattle.pad_shapes.specs.Rounded.{rounded_covers};
 ghost use Rattle.macro_shapes.specs.Primitives.{rounded_of};
-ghost use Rattle.macro_shapes.specs.Shapes.{diameter_at, width_along, disc_at, line_along, border, rectangle_of, rectangle_about, rectangle_along, segment, line_shape, with_border, crossing_sides, cross_border, with_arms, cross_shape, centre_shape, do_cross, shape_from, shape_of};
+ghost use Rattle.macro_shapes.specs.Shapes.{diameter_at, width_along, disc_at, line_along, border, rectangle_of, rectangle_about, rectangle_along, segment, line_shape, with_border, crossing_sides, cross_border, with_arms, cross_shape, centre_shape, do_cross, holds, is_centred_disc, shape_from, shape_of, wider};
 ghost use Rattle.macro_shapes.specs.Inner.Steps.{second_crossing};
-ghost use Rattle.macro_shapes.specs.Inner.Borders.{greatest, least, discs_in_turn, border_in_turn};
+ghost use Rattle.macro_shapes.specs.Inner.Borders.{chosen, least, discs_in_turn, border_in_turn};
 
 use crate::outline::{is_same, rounded_of};
 use crate::primitive::{Primitive, grid_point};
 use grid_units::Point;
-use pad_shapes::Rounded;
+use pad_shapes::{PadShape, Rounded};
 use std::alloc::{AllocError, Global};
 
 /// The largest side of a primitive in pm: ten metres.
@@ -41,7 +43,7 @@ fn width_along(start: Point, end: Point, primitive: &Primitive) -> Option<u64>
 
 /// The greater of two sizes, of which one or both may lack.
 fn greatest(a: Option<u64>, b: Option<u64>) -> Option<u64>
-    ensures { result ≡ greatest a b }
+    ensures { result ≡ chosen max a b }
 {
     match (a, b) {
         (None, b) => b,
@@ -365,15 +367,15 @@ fn centre_shape(
     }
 }
 
-/// The shape of a macro, by its first primitive.
+/// The shape of a macro by one of its primitives.
 fn shape_from(
     alloc: Global,
     primitives: &[Primitive],
-    first: &Primitive,
+    one: &Primitive,
 ) -> Result<Option<Rounded>, AllocError>
-    ensures { IfOk result (λ answer. answer ≡ shape_from primitives.now first.now) }
+    ensures { IfOk result (λ answer. answer ≡ shape_from primitives.now one.now) }
 {
-    match first {
+    match one {
         Primitive::Circle { centre, diameter } => {
             Ok(rounded_of(*centre, Vec::new(alloc), *diameter))
         }
@@ -393,7 +395,56 @@ fn shape_from(
     }
 }
 
-/// The shape of a macro with these primitives, by its first one, or `None` where it is not judged. A circle is a disc, a vector
+/// Whether a shape covers the disc about a corner of another one, of that one's radius.
+fn covers_corner(shape: &Rounded, other: &Rounded, corner: Point) -> bool
+    ensures { result ≡ rounded_covers shape.now corner other.now.radius }
+{
+    shape.covers(corner, other.radius())
+}
+
+/// Whether a shape covers so each of these corners.
+fn covers_each(shape: &Rounded, other: &Rounded, corners: &[Point]) -> bool
+    ensures { result ≡ list_all (λ c. rounded_covers shape.now c other.now.radius) corners.now }
+{
+    corners
+        .iter()
+        .all(|corner| covers_corner(shape, other, *corner))
+}
+
+/// Whether a shape holds another one: the disc about each of its corners, of its radius.
+fn holds(shape: &Rounded, other: &Rounded) -> bool
+    ensures { result ≡ holds shape.now other.now }
+{
+    covers_corner(shape, other, other.first()) && covers_each(shape, other, other.others())
+}
+
+/// Whether a shape is a disc about the point of the flash.
+pub fn is_centred_disc(shape: &Rounded) -> bool
+    ensures { result ≡ is_centred_disc shape.now }
+{
+    let first = shape.first();
+    shape.others().is_empty() && first.x() == 0 && first.y() == 0
+}
+
+/// The later of two shapes where it holds the earlier one and that is no disc about the point of the flash, else the earlier; each may lack.
+fn wider(earlier: Option<Rounded>, later: Option<Rounded>) -> Option<Rounded>
+    ensures { result ≡ chosen wider earlier later }
+{
+    match (earlier, later) {
+        (None, later) => later,
+        (Some(earlier), None) => Some(earlier),
+        (Some(earlier), Some(later)) => {
+            if !is_centred_disc(&earlier) && holds(&later, &earlier) {
+                Some(later)
+            } else {
+                Some(earlier)
+            }
+        }
+    }
+}
+
+/// The shape of a macro with these primitives, by the first of them that gives one, or, in turn, by each later one whose shape holds the one
+/// before it (a disc about the point of the flash stays); `None` where it is not judged. A circle is a disc, a vector
 /// line with circles at both ends a line with round ends, a vector line along an axis or a centre line a rectangle, and an
 /// outline a convex polygon: rounded by half of the least of the circles at its corners and of the vector lines along its edges,
 /// where none of them lacks. A centre line that a second one about the same centre crosses is their common part, rounded by half
@@ -406,8 +457,9 @@ fn shape_from(
 pub fn macro_shape(alloc: Global, primitives: &[Primitive]) -> Result<Option<Rounded>, AllocError>
     ensures { IfOk result (λ answer. answer ≡ shape_of primitives.now) }
 {
-    match primitives {
-        [] => Ok(None),
-        [first, ..] => shape_from(alloc, primitives, first),
+    let mut found = None;
+    for primitive in primitives {
+        found = wider(found, shape_from(alloc, primitives, primitive)?);
     }
+    Ok(found)
 }

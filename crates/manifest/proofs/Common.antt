@@ -17,7 +17,8 @@ pub use Rattle.grid_units.specs.declared.profile.Profile.{Profile}
 pub use Rattle.grid_units.specs.declared.profile.Profile.TheVariants.{Strict, Wide}
 pub use Rattle.manifest.specs.Contents.{contains, ends_function, function_of, function_prefix, has_no_hole, is_blank, is_comma, is_line_of, kind_of, says_plated_holes, says_unplated_holes}
 pub use Rattle.manifest.specs.Decisions.{Decision, by_file_function, by_kind, copper_by_name, decision, drill_by_function, drill_by_name, drill_by_text, drill_by_words, gerber_by_extension, gerber_by_function, gerber_by_stem, gerber_by_word, gerber_by_words, hole_kind, inner_copper_by_name, lacks_layers, layers_of_fields, layers_of_function, left_out_by_name, other_by_name, stack_position}
-pub use Rattle.manifest.specs.Manifest.{CsvRecord, are_empty, are_span_numbers, broken_after, csv_records, entries_of, entries_or_fault, entry_of, exceeds_layers, field, field_count, first_broken_rule, first_exceeding, first_fault, is_bad_span, is_control, is_layer_number, is_manifest_reason, is_plain_text, is_repeated, is_role_in, is_well_formed, is_wide_alone, joint_fault, manifest, manifest_in, missing_role, parse_entries, parse_manifest_records, role_of_word, span_of_fields}
+pub use Rattle.manifest.specs.Manifest.{CsvRecord, are_empty, are_span_numbers, broken_after, csv_records, entries_of, entries_or_fault, entry_of, exceeds_layers, field, field_count, first_broken_rule, first_exceeding, first_fault, has_version_3, is_bad_span, is_control, is_layer_number, is_header_v1, is_header_v2, is_header_v3, is_manifest_reason, is_plain_text, is_repeated, is_role_in, is_well_formed, is_wide_alone, joint_fault, manifest, manifest_in, missing_role, parse_entries, parse_manifest_records, role_of_word, span_of_fields}
+unfoldable pub use Rattle.manifest.specs.Manifest.{format_of_fields, may_say}
 pub use Rattle.manifest.specs.Manifests.{IsManifestOrder, backslash, because_text, byte_text, count_named, entry_row, has_spans, heading, hex_digit, is_ambiguous, is_copper, is_copper_role, is_listed, is_listed_role, is_partial, is_printed, label, layers_of_role, manifest_text, named_function, named_row, place_rank, rank, reason_row, reason_words, role_word, span_fields}
 pub use Rattle.manifest.specs.MixedFiles.{decision_in, is_mixed_reason, is_mixed_role, is_mixed_text, lines_and_rest, mixed_by_function, mixed_decision, with_byte}
 pub use Rattle.manifest.specs.Names.{base_name, digits_of, ends_in_copper, extension_of, has_dot, has_end, has_non_plated, has_plated, inner_extensions, inner_words, is_copper_word, is_number_within, is_one_of, is_other_word, is_plated_word, is_unclear_word, is_word_byte, last_other_word, letters_of, names_copper, number_suffix, number_within, says_plated, says_unplated, stem_of, unplated_words, word_runs, words_of}

@@ -84,7 +84,7 @@ entries_are_listed profile (Some width) files = by (first_fault profile width fi
 
 rows_fair : (profile : Profile) (rows : List CsvRecord) → IsListedReason (parse_manifest_records profile rows)
 rows_fair profile [] = of_fault (fault 1 0 BadManifest) refl
-rows_fair profile (first ∷ files) = entries_are_listed profile (field_count first) files
+rows_fair profile (first ∷ files) = entries_are_listed profile (field_count profile first) files
 
 pub manifest_is_listed : (profile : Profile) (text : List ℕ) (f : Fault) → manifest_in profile text ≡ Err f → is_manifest_reason f.reason ≡ true
 unfolding IsListedReason

@@ -138,7 +138,7 @@ module _ (profile : Profile) (entries : List Proposal) (distinct : IsOnce entrie
     entry_right : entry_in entries p ≡ entry_of (row_in spans entries p)
     entry_right = entry_is profile (label entries p) p.file spans p.role role_decided named
 
-    within : exceeds_layers count (entry_in entries p).span ≡ false
+    within : exceeds_layers count (entry_in entries p).said.span ≡ false
     within = not_beyond count spans (layers_of_role p.role) among
 
   no_breaks : violations (broken_after profile (width spans)) rows ≡ []
@@ -164,13 +164,13 @@ module _ (profile : Profile) (entries : List Proposal) (distinct : IsOnce entrie
   counted : count_by manifests.is_copper (map (entry_in entries) entries) ≡ count
   counted = count_of_map (entry_in entries) manifests.is_copper entries ∙ ap (λ (t : Proposal → Bool). count_by t entries) (λ i p. copper_same p i)
 
-  none_beyond : list_any (λ (e : Entry). exceeds_layers count e.span) (map (entry_in entries) entries) ≡ false
-  none_beyond = any_of_map (entry_in entries) (λ (e : Entry). exceeds_layers count e.span) entries ∙ none_passes (λ (p : Proposal). exceeds_layers count (entry_in entries p).span) [] entries within
+  none_beyond : list_any (λ (e : Entry). exceeds_layers count e.said.span) (map (entry_in entries) entries) ≡ false
+  none_beyond = any_of_map (entry_in entries) (λ (e : Entry). exceeds_layers count e.said.span) entries ∙ none_passes (λ (p : Proposal). exceeds_layers count (entry_in entries p).said.span) [] entries within
 
-  first_none : position (λ (e : Entry). exceeds_layers (count_by manifests.is_copper (map (entry_in entries) entries)) e.span) (map (entry_in entries) entries) ≡ None
+  first_none : position (λ (e : Entry). exceeds_layers (count_by manifests.is_copper (map (entry_in entries) entries)) e.said.span) (map (entry_in entries) entries) ≡ None
   first_none =
-      ap (λ (n : ℕ). position (λ (e : Entry). exceeds_layers n e.span) (map (entry_in entries) entries)) counted
-      ∙ nowhere (λ (e : Entry). exceeds_layers count e.span) (map (entry_in entries) entries) none_beyond
+      ap (λ (n : ℕ). position (λ (e : Entry). exceeds_layers n e.said.span) (map (entry_in entries) entries)) counted
+      ∙ nowhere (λ (e : Entry). exceeds_layers count e.said.span) (map (entry_in entries) entries) none_beyond
 
   nothing_lacks : missing_role (map (entry_in entries) entries) ≡ None
   nothing_lacks = rw (some_copper, some_drill) refl

@@ -1,5 +1,5 @@
 -- A manifest of the strict profile names the same files in the wide one.
-use Rattle.manifest.proofs.Common.{◌≡◌, ◌∙◌, ◌++◌, ◌||◌, ◌&&◌, ◌==◌, ℕ, Bool, true, false, List, [], ◌∷◌, Option, Some, None, Ok, length, map, slice_get, not, refl, ap, sym, if◌then◌else◌, is_some, cons_option, filter_map, option_map, option_or, violation_at, violations, with_prefixes_from, Strict, Wide, Reason, BadManifest, BadRole, BadSpan, EmptyName, RepeatedName, Entry, CsvRecord, broken_after, csv_records, entries_or_fault, entry_of, field, field_count, first_broken_rule, first_fault, is_bad_span, is_repeated, is_wide_alone, is_well_formed, joint_fault, manifest, manifest_in, parse_entries, parse_manifest_records, role_of_word}
+use Rattle.manifest.proofs.Common.{◌≡◌, ◌∙◌, ◌++◌, ◌||◌, ◌&&◌, ◌==◌, ℕ, Bool, true, false, List, [], ◌∷◌, Option, Some, None, Ok, length, map, slice_get, not, refl, ap, sym, if◌then◌else◌, is_some, cons_option, filter_map, option_map, option_or, violation_at, violations, with_prefixes_from, Strict, Wide, Reason, BadManifest, BadRole, BadSpan, EmptyName, RepeatedName, Entry, CsvRecord, broken_after, csv_records, entries_or_fault, entry_of, field, first_broken_rule, first_fault, has_version_3, is_bad_span, is_header_v1, is_header_v2, is_header_v3, is_repeated, is_wide_alone, is_well_formed, joint_fault, manifest, manifest_in, parse_entries, parse_manifest_records, role_of_word}
 
 -- a record that breaks no rule of the strict profile breaks none of the wide one
 no_rule : (width : ℕ) (repeated : Bool) (row : CsvRecord) → first_broken_rule Strict width repeated row ≡ None → first_broken_rule Wide width repeated row ≡ None
@@ -54,7 +54,13 @@ same_entries (Some width) files entries h =
 
 same_records : (rows : List CsvRecord) (entries : List Entry) → parse_manifest_records Strict rows ≡ Ok entries → parse_manifest_records Wide rows ≡ Ok entries
 same_records [] entries h = h
-same_records (first ∷ files) entries h = same_entries (field_count first) files entries h
+same_records (first ∷ files) entries h = by (is_header_v1 first) (is_header_v2 first) h
+  where
+    by : (one two : Bool) → parse_entries Strict (if one then Some 3 else if two then Some 5 else if has_version_3 Strict && is_header_v3 first then Some 8 else None) files ≡ Ok entries
+        → parse_entries Wide (if one then Some 3 else if two then Some 5 else if has_version_3 Wide && is_header_v3 first then Some 8 else None) files ≡ Ok entries
+    by true two h = same_entries (Some 3) files entries h
+    by false true h = same_entries (Some 5) files entries h
+    by false false h = absurd cc
 
 pub same_manifest : (text : List ℕ) (entries : List Entry) → manifest text ≡ Ok entries → manifest_in Wide text ≡ Ok entries
 same_manifest text entries h = same_records (csv_records text) entries h

@@ -1,11 +1,11 @@
 -- The record of a proposal that is decided breaks no rule of a manifest, and names its file.
-use Rattle.manifest.proofs.Common.{◌≡◌, ◌∙◌, ◌<◌, ◌≤◌, ◌^◌, ◌&&◌, ◌||◌, ◌==◌, ℕ, zero, suc, Bool, true, false, not, List, [], ◌∷◌, length, codes, Option, Some, None, unwrap_or, arith, refl, sym, ap, nat_lt, nat_le, decimal, if◌then◌else◌, list_all, list_any, is_utf8, IsAscii, false≢true, ne_eqb, leb-true, ltb-true, le-leb, nat_tests, IsUtf8-from_ascii, is_utf8-from_IsUtf8, is_digit, is_digits, value, Reason, BadManifest, BadRole, BadSpan, EmptyName, RepeatedName, CsvRecord, are_empty, are_span_numbers, first_broken_rule, entry_of, field, is_bad_span, is_control, is_layer_number, is_role_in, is_wide_alone, is_plain_text, is_well_formed, role_of_word, span_of_fields, Profile, Strict, Wide, Entry, LayerRange, ProposedRole, Copper, Plated, Unplated, Mixed, Undecided, LeftOut, role_word, span_fields, layers_of_role, as_span, is_decided, is_valid_name, role_of, and_true, both_true}
+use Rattle.manifest.proofs.Common.{◌≡◌, ◌∙◌, ◌<◌, ◌≤◌, ◌^◌, ◌&&◌, ◌||◌, ◌==◌, ℕ, zero, suc, Bool, true, false, not, List, [], ◌∷◌, length, codes, Option, Some, None, unwrap_or, arith, refl, sym, ap, nat_lt, nat_le, decimal, if◌then◌else◌, list_all, list_any, is_utf8, IsAscii, false≢true, ne_eqb, leb-true, ltb-true, le-leb, nat_tests, IsUtf8-from_ascii, is_utf8-from_IsUtf8, is_digit, is_digits, value, Reason, BadManifest, BadRole, BadSpan, EmptyName, RepeatedName, CsvRecord, are_empty, are_span_numbers, first_broken_rule, format_of_fields, entry_of, field, is_bad_span, is_control, is_layer_number, is_role_in, is_wide_alone, is_plain_text, is_well_formed, may_say, role_of_word, span_of_fields, Profile, Strict, Wide, Entry, LayerRange, ProposedRole, Copper, Plated, Unplated, Mixed, Undecided, LeftOut, role_word, span_fields, layers_of_role, as_span, is_decided, is_valid_name, role_of, and_true, both_true}
 use Rattle.std.proofs.Common.{is_some}
 use Rattle.std.proofs.lemmas.Fmt.{length-decimal-le}
 use Rattle.std.proofs.lemmas.Str.Ascii.{IsAscii-nil}
 use Rattle.grid_units.specs.Spans.{LayerSpan}
 use Rattle.grid_units.proofs.SpellingsLemmas.{spells_decimal}
-use Rattle.manifest.proofs.EntryFields.{empty_plain, well_formed}
+use Rattle.manifest.proofs.EntryFields.{beyond, empty_plain, well_formed}
 use Rattle.manifest.specs.Manifest.{is_copper_role}
 use Rattle.manifest.specs.declared.Role.{Role}
 use Rattle.manifest.specs.declared.Role.TheVariants as roles
@@ -125,11 +125,16 @@ neither false false h k = refl
 
 lawful : (profile : Profile) (n : ℕ) (row : CsvRecord) → length row ≡ n → n ≤ 5 → is_plain_text (field 0 row) ≡ true → is_valid_name (field 1 row) ≡ true → is_valid_name (field 2 row) ≡ true → is_plain_text (field 3 row) ≡ true
     → is_plain_text (field 4 row) ≡ true → (is_some (role_of_word (field 0 row)) && is_role_in profile (entry_of row).role) ≡ true → is_bad_span (entry_of row).role (field 3 row) (field 4 row) ≡ false → first_broken_rule profile n false row ≡ None
+unfolding may_say
 lawful profile n row len five word name file first last role span =
     let a = both_true (is_plain_text (field 1 row)) (not (length (field 1 row) == 0)) name in
     let b = both_true (is_plain_text (field 2 row)) (not (length (field 2 row) == 0)) file in
     none_broken (is_well_formed n row) (is_some (role_of_word (field 0 row)) && is_role_in profile (entry_of row).role) ((length (field 1 row) == 0) || (length (field 2 row) == 0)) (is_bad_span (entry_of row).role (field 3 row) (field 4 row))
-    (well_formed row n len five word a.0 b.0 first last) role (neither (length (field 1 row) == 0) (length (field 2 row) == 0) a.1 b.1) span
+    (well_formed row n len (omega (arith, five)) word a.0 b.0 first last (plainly 5 five) (plainly 6 (omega (arith, five))) (plainly 7 (omega (arith, five)))
+    (rw (beyond row 5 (omega (arith, len, five)), beyond row 6 (omega (arith, len, five)), beyond row 7 (omega (arith, len, five))) refl)) role (neither (length (field 1 row) == 0) (length (field 2 row) == 0) a.1 b.1) span
+  where
+    plainly : (k : ℕ) → n ≤ k → is_plain_text (field k row) ≡ true
+    plainly k le = ap is_plain_text (beyond row k (omega (arith, len, le))) ∙ empty_plain
 
 not_bad : (a n : Bool) → n ≡ true → (a && (false || not n)) ≡ false
 not_bad true n e = ap not e
@@ -167,11 +172,12 @@ module _ (name file : List ℕ) (is_listed_role : is_valid_name name ≡ true) (
   no_rule_broken profile spans LeftOut d h = absurd (false≢true d)
 
 abbrev file_as : Role → List ℕ → List ℕ → Option LayerSpan → Entry
-file_as role name file span = record { role = role; name = name; file = file; span = span }
+file_as role name file span = record { role = role; name = name; file = file; said = record { span = span; format = None } }
 
 -- the file that the record names
 pub entry_is : (profile : Profile) (name file : List ℕ) (spans : Bool) (role : ProposedRole) → is_decided profile role ≡ true → CanBeNamed (layers_of_role role)
-    → record { role = role_of role; name = name; file = file; span = if spans then as_span (layers_of_role role) else None } ≡ entry_of (fields_of spans role name file)
+    → record { role = role_of role; name = name; file = file; said = record { span = if spans then as_span (layers_of_role role) else None; format = None } } ≡ entry_of (fields_of spans role name file)
+unfolding format_of_fields
 entry_is profile name file false (Copper place) d h = refl
 entry_is profile name file true (Copper place) d h = refl
 entry_is profile name file false (Plated span) d h = refl

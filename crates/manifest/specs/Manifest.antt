@@ -13,11 +13,18 @@ use Rattle.grid_units.specs.Spans.{LayerSpan}
 use Rattle.grid_units.specs.declared.fault.Reason.{Reason}
 use Rattle.grid_units.specs.declared.fault.Reason.TheVariants.{BadManifest, BadRole, EmptyName, RepeatedName, NoCopper, NoDrill, BadSpan}
 use Rattle.grid_units.specs.declared.fault.Fault.{Fault}
+use Rattle.grid_units.specs.declared.lengths.Unit.{Unit as Units}
+use Rattle.grid_units.specs.declared.lengths.Unit.TheVariants.{Inch, Millimetre}
+use Rattle.grid_units.specs.declared.zero_filling.Zeros.{Zeros}
+use Rattle.grid_units.specs.declared.zero_filling.Zeros.TheVariants.{Leading, Trailing}
 use Rattle.grid_units.specs.declared.profile.Profile.{Profile}
 use Rattle.grid_units.specs.declared.profile.Profile.TheVariants.{Strict, Wide}
+use Rattle.drill_lines.specs.Header.{parse_format}
+use Rattle.drill_lines.specs.declared.command.CoordinateFormat.{CoordinateFormat}
 use Rattle.manifest.specs.declared.Role.{Role}
 use Rattle.manifest.specs.declared.Role.TheVariants.{Copper, Plated, Unplated, Mixed}
 use Rattle.manifest.specs.declared.Entry.{Entry}
+use Rattle.manifest.specs.declared.Said.{Said}
 use Rattle.grid_units.specs.Ascii as ascii
 
 -- ---- records
@@ -60,13 +67,51 @@ is_header_v1 row = (length row == 3) && has_file_columns row
 abbrev pub is_header_v2 : CsvRecord → Bool
 is_header_v2 row = (length row == 5) && (has_file_columns row && has_span_columns row)
 
--- how many fields each record must have, by the first one: 3 in version 1 and 5 in version 2; None where it is neither
-abbrev pub field_count : CsvRecord → Option ℕ
-field_count first = if is_header_v1 first then Some 3 else if is_header_v2 first then Some 5 else None
+-- the last three fields are `unit`, `digits`, `zeros`
+abbrev pub has_format_columns : CsvRecord → Bool
+has_format_columns row = bytes_eq (field 5 row) (codes "unit") && (bytes_eq (field 6 row) (codes "digits") && bytes_eq (field 7 row) (codes "zeros"))
 
--- a record of just so many fields, each of plain text
+-- the first record of version 3: `role,name,file,first,last,unit,digits,zeros`
+abbrev pub is_header_v3 : CsvRecord → Bool
+is_header_v3 row = (length row == 8) && (has_file_columns row && (has_span_columns row && has_format_columns row))
+
+-- the profile has version 3
+abbrev pub has_version_3 : Profile → Bool
+has_version_3 Strict = false
+has_version_3 Wide = true
+
+-- how many fields each record must have, by the first one: 3 in version 1, 5 in version 2 and 8 in version 3, in the wide profile alone; None where it is none of these
+abbrev pub field_count : Profile → CsvRecord → Option ℕ
+field_count profile first = if is_header_v1 first then Some 3 else if is_header_v2 first then Some 5 else if has_version_3 profile && is_header_v3 first then Some 8 else None
+
+-- the unit that a word names: `inch` or `mm`
+abbrev pub unit_of_word : List ℕ → Option Units
+unit_of_word word = if bytes_eq word (codes "inch") then Some Inch else if bytes_eq word (codes "mm") then Some Millimetre else None
+
+-- the zeros that a word says coordinates keep: the leading ones `LZ`, the trailing ones `TZ`
+abbrev pub zeros_of_word : List ℕ → Option Zeros
+zeros_of_word word = if bytes_eq word (codes "LZ") then Some Leading else if bytes_eq word (codes "TZ") then Some Trailing else None
+
+-- both texts are empty
+abbrev pub are_empty : List ℕ → List ℕ → Bool
+are_empty first last = (length first == 0) && (length last == 0)
+
+-- a text is empty, or says something
+abbrev pub is_empty_or : Bool → List ℕ → Bool
+is_empty_or says text = (length text == 0) || says
+
+-- three texts say nothing of coordinates, or their unit and optionally their digits, as `2:4`, and zeros
+abbrev pub are_format_words : List ℕ → List ℕ → List ℕ → Bool
+are_format_words unit digits zeros =
+    ((length unit == 0) && are_empty digits zeros) || (is_some (unit_of_word unit) && (is_empty_or (is_some (parse_format digits)) digits && is_empty_or (is_some (zeros_of_word zeros)) zeros))
+
+-- a file with this word for its role may be said to have such coordinates: a copper layer has none
+unfoldable pub may_say : List ℕ → List ℕ → List ℕ → List ℕ → Bool
+may_say role unit digits zeros = are_format_words unit digits zeros && is_empty_or (not (bytes_eq role (codes "copper"))) unit
+
+-- a record of just so many fields, each of plain text, of which the last three of version 3 say how coordinates are written, or nothing
 abbrev pub is_well_formed : ℕ → CsvRecord → Bool
-is_well_formed width row = (length row == width) && list_all is_plain_text row
+is_well_formed width row = (length row == width) && (list_all is_plain_text row && may_say (field 0 row) (field 5 row) (field 6 row) (field 7 row))
 
 -- the role that a word names, byte by byte: `copper`, `plated`, `unplated` or `mixed`
 abbrev pub role_of_word : List ℕ → Option Role
@@ -92,24 +137,28 @@ is_layer_number text = is_digits text && nat_le (length text) 9
 abbrev pub are_span_numbers : List ℕ → List ℕ → Bool
 are_span_numbers first last = (is_layer_number first && is_layer_number last) && (nat_le 1 (value first) && nat_le (value first) (value last))
 
--- both texts are empty
-abbrev pub are_empty : List ℕ → List ℕ → Bool
-are_empty first last = (length first == 0) && (length last == 0)
-
 -- the span that two texts name; none where both are empty
 abbrev pub span_of_fields : List ℕ → List ℕ → Option LayerSpan
 span_of_fields first last = if are_empty first last then None else Some (record { first = value first; last = value last })
 
+-- what three texts say of coordinates: `inch`, `2:4` and `TZ` what the line `INCH,TZ,00.0000` says; nothing where the first names no unit
+unfoldable pub format_of_fields : List ℕ → List ℕ → List ℕ → Option CoordinateFormat
+format_of_fields unit digits zeros = option_map (λ named. record { unit = named; zeros = zeros_of_word zeros; digits = parse_format digits }) (unit_of_word unit)
+
+-- what a record says of a file besides its role and its names
+abbrev pub said_of : CsvRecord → Said
+said_of row = record { span = span_of_fields (field 3 row) (field 4 row); format = format_of_fields (field 5 row) (field 6 row) (field 7 row) }
+
 -- The file that a record names: `plated,vias,vias.drl,2,3` names a plated drill file of the layers 2 and 3. An unknown role or a
 -- bad span gives some value that is never used, as such a record is refused.
 abbrev pub entry_of : CsvRecord → Entry
-entry_of row = record { role = unwrap_or (role_of_word (field 0 row)) Copper; name = field 1 row; file = field 2 row; span = span_of_fields (field 3 row) (field 4 row) }
+entry_of row = record { role = unwrap_or (role_of_word (field 0 row)) Copper; name = field 1 row; file = field 2 row; said = said_of row }
 
 -- files of this role are copper layers
 abbrev pub is_copper_role : Role → Bool
 is_copper_role role = elim role [ Copper ↦ true | Plated ↦ false | Unplated ↦ false | Mixed ↦ false ]
 
--- the last two fields are not both empty, and the file is a copper layer or they are not the numbers of a span
+-- the two fields of a span are not both empty, and the file is a copper layer or they are not the numbers of a span
 abbrev pub is_bad_span : Role → List ℕ → List ℕ → Bool
 is_bad_span role first last = not (are_empty first last) && (is_copper_role role || not (are_span_numbers first last))
 
@@ -144,7 +193,7 @@ exceeds_layers layer_count (Some span) = nat_lt layer_count span.last
 
 -- the place, from 0, of the first file whose span ends above the last copper layer
 abbrev pub first_exceeding : List Entry → Option ℕ
-first_exceeding entries = position (λ entry. exceeds_layers (count_by is_copper entries) entry.span) entries
+first_exceeding entries = position (λ entry. exceeds_layers (count_by is_copper entries) entry.said.span) entries
 
 -- What is wrong with all files together, at a place from 0: one place after the last file, a role that they lack; or else, at
 -- the place of its file, the first span that ends above the last copper layer.
@@ -176,7 +225,7 @@ parse_entries profile (Some width) files = entries_of profile width files
 -- the files that a list of records names, or the first refusal; a list without records is BadManifest at record 1
 abbrev pub parse_manifest_records : Profile → List CsvRecord → Result (List Entry) Fault
 parse_manifest_records profile [] = Err (fault 1 0 BadManifest)
-parse_manifest_records profile (first ∷ files) = parse_entries profile (field_count first) files
+parse_manifest_records profile (first ∷ files) = parse_entries profile (field_count profile first) files
 
 -- the files that the bytes of a manifest name in a profile, in order, or the first refusal
 abbrev pub manifest_in : Profile → List ℕ → Result (List Entry) Fault

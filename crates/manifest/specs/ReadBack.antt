@@ -28,9 +28,9 @@ abbrev pub as_span : Option LayerRange → Option LayerSpan
 as_span None = None
 as_span (Some layers) = Some (record { first = layers.first; last = layers.last })
 
--- the file that a proposal becomes in the manifest of these entries; it has its layers only where the manifest has version 2
+-- the file that a proposal becomes in the manifest of these entries; it has its layers only where the manifest has version 2, and nothing is said of coordinates
 abbrev pub entry_in : List Proposal → Proposal → Entry
-entry_in entries p = record { role = role_of p.role; name = label entries p; file = p.file; span = if has_spans entries then as_span (layers_of_role p.role) else None }
+entry_in entries p = record { role = role_of p.role; name = label entries p; file = p.file; said = record { span = if has_spans entries then as_span (layers_of_role p.role) else None; format = None } }
 
 -- a copper layer, or a drill file whose plating is known; a mixed file in the wide profile alone
 abbrev pub is_decided : Profile → ProposedRole → Bool

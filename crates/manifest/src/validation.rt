@@ -1,18 +1,19 @@
 //! Which records name files, and by which rule the first wrong one is refused.
 
-ghost use Rattle.std.specs.Prelude.{◌≡◌, ◌≤◌, map, true, false, MatchOption, IfErr, IfOk, IfSome, Ok, Err};
+ghost use Rattle.std.specs.Prelude.{◌≡◌, ◌≤◌, map, not, true, false, MatchOption, IfErr, IfOk, IfSome, Ok, Err};
 ghost use Rattle.csv.specs.Records.{fields_of};
 ghost use Rattle.grid_units.specs.Results.{Answers, with_place};
 ghost use Rattle.manifest.specs.Manifest as naming;
-ghost use Rattle.manifest.specs.Manifest.{field, is_well_formed, parse_manifest_records};
+ghost use Rattle.manifest.specs.Manifest.{field, format_of_fields, is_well_formed, parse_manifest_records};
 ghost use Rattle.manifest.specs.Inner.RecordEntry as reading;
 ghost use Rattle.manifest.specs.Inner.RecordEntry.{checked_entry, entry_with};
 
 use crate::names::Name;
 use crate::rows::{has_field, refused, text_field};
-use crate::{Entry, Role, layer_number};
+use crate::{Entry, Role, Said, layer_number};
 use csv::ByteRecord;
-use grid_units::{Fail, Profile, Reason, Span};
+use drill_lines::{CoordinateFormat, read_digits};
+use grid_units::{Fail, Profile, Reason, Span, Unit, Zeros};
 use std::alloc::Global;
 use std::collections::BTreeSet;
 
@@ -27,7 +28,7 @@ pub(crate) fn parse_manifest_records(
     let Some((first, files)) = rows.split_first() else {
         return Err(refused(1, Reason::BadManifest));
     };
-    let Some(width) = field_count(first) else {
+    let Some(width) = field_count(profile, first) else {
         return Err(refused(1, Reason::BadManifest));
     };
     entries_of(alloc, profile, width, files)
@@ -40,7 +41,7 @@ fn entries_of(
     width: usize,
     files: &[ByteRecord],
 ) -> Result<Vec<Entry>, Fail>
-    requires { width ≤ 5 }
+    requires { width ≤ 8 }
     ensures { Answers (λ entries. entries.items) (λ answer. answer ≡ naming.entries_of profile width (map fields_of files.now)) result }
 {
     let mut names = BTreeSet::new(alloc);
@@ -66,13 +67,13 @@ fn name_of(row: &ByteRecord) -> &[u8]
     }
 }
 
-/// What a record says of a file: its role, its two names and its span.
+/// What a record says of a file: its role, its two names and what else it says.
 #[derive(Clone, Copy)]
 struct NamedFile<'a> {
     role: Role,
     name: &'a str,
     file: &'a str,
-    span: Option<Span>,
+    said: Said,
 }
 
 /// What a record says in a profile, or the first rule that it breaks; `repeated` says whether an earlier file has its name.
@@ -82,7 +83,7 @@ fn named_file<'a>(
     repeated: bool,
     row: &'a ByteRecord,
 ) -> Result<NamedFile<'a>, Reason>
-    requires { width ≤ 5 }
+    requires { width ≤ 8 }
     ensures ok { IfOk result (λ named. checked_entry profile width repeated (fields_of row.now) ≡ Ok (entry_with named)) }
     ensures err { IfErr result (λ why. checked_entry profile width repeated (fields_of row.now) ≡ Err why) }
 {
@@ -108,7 +109,10 @@ fn named_file<'a>(
         role,
         name: fields.name,
         file: fields.file,
-        span,
+        said: Said {
+            span,
+            format: fields.format,
+        },
     })
 }
 
@@ -121,7 +125,7 @@ fn read_entry(
     repeated: bool,
     row: &ByteRecord,
 ) -> Result<Entry, Fail>
-    requires { width ≤ 5 }
+    requires { width ≤ 8 }
     ensures { Answers (λ entry. entry) (λ answer. answer ≡ with_place place 0 (checked_entry profile width repeated (fields_of row.now))) result }
 {
     match named_file(profile, width, repeated, row) {
@@ -129,13 +133,13 @@ fn read_entry(
             role: named.role,
             name: Name::new(alloc, named.name)?,
             file: Name::new(alloc, named.file)?,
-            span: named.span,
+            said: named.said,
         }),
         Err(reason) => Err(refused(place, reason)),
     }
 }
 
-/// The fields of a record, each of plain text. A field that it lacks is empty.
+/// The fields of a record, each of plain text, and what they say of its coordinates. A field that it lacks is empty.
 #[derive(Clone, Copy)]
 struct EntryFields<'a> {
     role: &'a str,
@@ -143,43 +147,127 @@ struct EntryFields<'a> {
     file: &'a str,
     first: &'a str,
     last: &'a str,
+    format: Option<CoordinateFormat>,
 }
 
 /// The fields of a record, if it is well formed.
 fn text_fields<'a>(row: &'a ByteRecord, width: usize) -> Option<EntryFields<'a>>
-    requires { width ≤ 5 }
+    requires { width ≤ 8 }
     ensures { MatchOption result (is_well_formed width (fields_of row.now) ≡ false)
         (λ f. (is_well_formed width (fields_of row.now) ≡ true) × (f.role.now ≡ field 0 (fields_of row.now)) × (f.name.now ≡ field 1 (fields_of row.now))
-        × (f.file.now ≡ field 2 (fields_of row.now)) × (f.first.now ≡ field 3 (fields_of row.now)) × (f.last.now ≡ field 4 (fields_of row.now))) }
+        × (f.file.now ≡ field 2 (fields_of row.now)) × (f.first.now ≡ field 3 (fields_of row.now)) × (f.last.now ≡ field 4 (fields_of row.now))
+        × (f.format ≡ format_of_fields (field 5 (fields_of row.now)) (field 6 (fields_of row.now)) (field 7 (fields_of row.now)))) }
 {
     if row.len() != width {
         return None;
     }
+    let role = text_field(row, 0)?;
     Some(EntryFields {
-        role: text_field(row, 0)?,
+        role,
         name: text_field(row, 1)?,
         file: text_field(row, 2)?,
         first: text_field(row, 3)?,
         last: text_field(row, 4)?,
+        format: said_format(
+            role,
+            text_field(row, 5)?,
+            text_field(row, 6)?,
+            text_field(row, 7)?,
+        )?,
     })
 }
 
-/// How many fields each record has, if this is the first one of a manifest.
-fn field_count(first: &ByteRecord) -> Option<usize>
-    ensures value { result ≡ naming.field_count (fields_of first.now) }
-    ensures bound { IfSome result (λ width. width ≤ 5) }
+/// What three fields say of the coordinates of a file with this word for its role; `None` where they may not say it.
+#[tactic(auto, unfolding(crate::specs::Manifest::may_say, crate::specs::Manifest::format_of_fields))]
+fn said_format(
+    role: &str,
+    unit: &str,
+    digits: &str,
+    zeros: &str,
+) -> Option<Option<CoordinateFormat>>
+    ensures { result ≡ reading.said_format role.now unit.now digits.now zeros.now }
 {
-    let names_files = has_field(first, 0, "role")
-        && has_field(first, 1, "name")
-        && has_field(first, 2, "file");
-    if first.len() == 3 && names_files {
+    if unit.is_empty() && digits.is_empty() && zeros.is_empty() {
+        return Some(None);
+    }
+    let named = unit_of_word(unit)?;
+    let read = read_digits(digits.as_bytes());
+    let kept = zeros_of_word(zeros);
+    if role == "copper"
+        || (read.is_none() && !digits.is_empty())
+        || (kept.is_none() && !zeros.is_empty())
+    {
+        return None;
+    }
+    Some(Some(CoordinateFormat {
+        unit: named,
+        zeros: kept,
+        digits: read,
+    }))
+}
+
+/// The unit that a word names: `inch` or `mm`.
+fn unit_of_word(word: &str) -> Option<Unit>
+    ensures { result ≡ naming.unit_of_word word.now }
+{
+    match word {
+        "inch" => Some(Unit::Inch),
+        "mm" => Some(Unit::Millimetre),
+        _ => None,
+    }
+}
+
+/// The zeros that a word says coordinates keep: the leading ones `LZ`, the trailing ones `TZ`.
+fn zeros_of_word(word: &str) -> Option<Zeros>
+    ensures { result ≡ naming.zeros_of_word word.now }
+{
+    match word {
+        "LZ" => Some(Zeros::Leading),
+        "TZ" => Some(Zeros::Trailing),
+        _ => None,
+    }
+}
+
+/// How many fields each record has, if this is the first one of a manifest in the profile.
+fn field_count(profile: Profile, first: &ByteRecord) -> Option<usize>
+    ensures value { result ≡ naming.field_count profile (fields_of first.now) }
+    ensures bound { IfSome result (λ width. width ≤ 8) }
+{
+    if first.len() == 3 && has_file_columns(first) {
         return Some(3);
     }
-    let names_spans = has_field(first, 3, "first") && has_field(first, 4, "last");
-    if first.len() == 5 && names_files && names_spans {
+    if first.len() == 5 && has_file_columns(first) && has_span_columns(first) {
         return Some(5);
     }
-    None
+    match profile {
+        Profile::Wide
+            if first.len() == 8
+                && has_file_columns(first)
+                && has_span_columns(first)
+                && has_format_columns(first) => { Some(8) }
+        _ => None,
+    }
+}
+
+/// Whether the first three fields are `role`, `name`, `file`.
+fn has_file_columns(first: &ByteRecord) -> bool
+    ensures { result ≡ naming.has_file_columns (fields_of first.now) }
+{
+    has_field(first, 0, "role") && has_field(first, 1, "name") && has_field(first, 2, "file")
+}
+
+/// Whether the fourth and the fifth field are `first`, `last`.
+fn has_span_columns(first: &ByteRecord) -> bool
+    ensures { result ≡ naming.has_span_columns (fields_of first.now) }
+{
+    has_field(first, 3, "first") && has_field(first, 4, "last")
+}
+
+/// Whether the last three fields are `unit`, `digits`, `zeros`.
+fn has_format_columns(first: &ByteRecord) -> bool
+    ensures { result ≡ naming.has_format_columns (fields_of first.now) }
+{
+    has_field(first, 5, "unit") && has_field(first, 6, "digits") && has_field(first, 7, "zeros")
 }
 
 /// The role that a word names: `copper`, `plated`, `unplated` or `mixed`.
@@ -286,5 +374,5 @@ fn first_exceeding(entries: &[Entry]) -> Option<usize>
     let layer_count = entries.iter().filter(|entry| is_copper(entry)).count();
     entries
         .iter()
-        .position(|entry| exceeds_layers(layer_count, entry.span))
+        .position(|entry| exceeds_layers(layer_count, entry.said.span))
 }

@@ -1,3 +1,5 @@
+use grid_units::Reason::*;
+use grid_units::Zeros::*;
 use grid_units::*;
 use std::alloc::{AllocError, Global};
 
@@ -32,24 +34,24 @@ const DECIMALS: [(&str, Result<i64, Reason>); 40] = [
     ("000000000000999999.5", Ok(99_999_950_000_000)),
     ("0254", Ok(25_400_000_000)),
     ("00.3937", Ok(39_370_000)),
-    ("", Err(Reason::BadNumber)),
-    ("+", Err(Reason::BadNumber)),
-    ("-", Err(Reason::BadNumber)),
-    (".", Err(Reason::BadNumber)),
-    ("+.", Err(Reason::BadNumber)),
-    ("--1", Err(Reason::BadNumber)),
-    ("1.2.3", Err(Reason::BadNumber)),
-    ("1-", Err(Reason::BadNumber)),
-    ("1e3", Err(Reason::BadNumber)),
-    (" 1", Err(Reason::BadNumber)),
-    ("1+.123456789", Err(Reason::BadNumber)),
-    ("0.123456789", Err(Reason::TooFine)),
-    ("1000000.000000001", Err(Reason::TooFine)),
-    ("0.000000001", Err(Reason::TooFine)),
-    ("1000000", Err(Reason::TooFar)),
-    ("1000000.0000000000", Err(Reason::TooFar)),
-    ("-1000000", Err(Reason::TooFar)),
-    ("99999999999999999999999999", Err(Reason::TooFar)),
+    ("", Err(BadNumber)),
+    ("+", Err(BadNumber)),
+    ("-", Err(BadNumber)),
+    (".", Err(BadNumber)),
+    ("+.", Err(BadNumber)),
+    ("--1", Err(BadNumber)),
+    ("1.2.3", Err(BadNumber)),
+    ("1-", Err(BadNumber)),
+    ("1e3", Err(BadNumber)),
+    (" 1", Err(BadNumber)),
+    ("1+.123456789", Err(BadNumber)),
+    ("0.123456789", Err(TooFine)),
+    ("1000000.000000001", Err(TooFine)),
+    ("0.000000001", Err(TooFine)),
+    ("1000000", Err(TooFar)),
+    ("1000000.0000000000", Err(TooFar)),
+    ("-1000000", Err(TooFar)),
+    ("99999999999999999999999999", Err(TooFar)),
 ];
 
 #[test]
@@ -115,12 +117,12 @@ fn decimals_are_lengths_in_both_units(rt: HostRuntime) {
         ("0.4", Unit::Millimetre, Ok(400_000_000)),
         ("0.0256", Unit::Inch, Ok(650_240_000)),
         ("10000", Unit::Millimetre, Ok(10_000_000_000_000)),
-        ("10000.00000001", Unit::Millimetre, Err(Reason::TooFar)),
-        ("-10000.00000001", Unit::Millimetre, Err(Reason::TooFar)),
+        ("10000.00000001", Unit::Millimetre, Err(TooFar)),
+        ("-10000.00000001", Unit::Millimetre, Err(TooFar)),
         // 393.70078740 in is 9,999,999,999,960 pm, and 10^-8 in more is 10,000,000,000,214 pm.
         ("393.70078740", Unit::Inch, Ok(9_999_999_999_960)),
-        ("393.70078741", Unit::Inch, Err(Reason::TooFar)),
-        ("393.8", Unit::Inch, Err(Reason::TooFar)),
+        ("393.70078741", Unit::Inch, Err(TooFar)),
+        ("393.8", Unit::Inch, Err(TooFar)),
     ] {
         assert!(rt; length(text, unit) == expected, "of {text}");
     }
@@ -132,16 +134,16 @@ const INTEGERS: [(i64, u8, Unit, Result<i64, Reason>); 14] = [
     (1, 6, Unit::Millimetre, Ok(1_000)),
     (1, 6, Unit::Inch, Ok(25_400)),
     (10_000_000_000, 6, Unit::Millimetre, Ok(10_000_000_000_000)),
-    (10_000_000_001, 6, Unit::Millimetre, Err(Reason::TooFar)),
-    (393_800_000, 6, Unit::Inch, Err(Reason::TooFar)),
+    (10_000_000_001, 6, Unit::Millimetre, Err(TooFar)),
+    (393_800_000, 6, Unit::Inch, Err(TooFar)),
     (393_700_000, 6, Unit::Inch, Ok(9_999_980_000_000)),
-    (999_999_999_999, 6, Unit::Inch, Err(Reason::TooFar)),
+    (999_999_999_999, 6, Unit::Inch, Err(TooFar)),
     (1000, 4, Unit::Inch, Ok(2_540_000_000)),
     (-500, 4, Unit::Inch, Ok(-1_270_000_000)),
     (1, 0, Unit::Inch, Ok(25_400_000_000)),
     (10_000, 0, Unit::Millimetre, Ok(10_000_000_000_000)),
-    (10_001, 0, Unit::Millimetre, Err(Reason::TooFar)),
-    (-10_001, 0, Unit::Millimetre, Err(Reason::TooFar)),
+    (10_001, 0, Unit::Millimetre, Err(TooFar)),
+    (-10_001, 0, Unit::Millimetre, Err(TooFar)),
 ];
 
 /// The length of these digits. `None` where they or their decimals are more than the function takes.
@@ -176,53 +178,41 @@ fn coordinate(text: &str, i: u8, d: u8, zeros: Zeros) -> Option<Result<i64, Reas
 /// Coordinates, their formats, and their values in units of 10^-8.
 const COORDINATES: [(&str, u8, u8, Zeros, Result<i64, Reason>); 30] = [
     // 2.54, written in three ways.
-    ("2540", 3, 3, Zeros::Trailing, Ok(254_000_000)),
-    ("00254", 3, 3, Zeros::Leading, Ok(254_000_000)),
-    ("002540", 3, 3, Zeros::Full, Ok(254_000_000)),
-    ("-002540", 3, 3, Zeros::Full, Ok(-254_000_000)),
-    ("2540", 3, 3, Zeros::Full, Err(Reason::NoZeros)),
-    ("0000001", 3, 3, Zeros::Full, Err(Reason::NoZeros)),
-    ("1234567", 3, 3, Zeros::Trailing, Err(Reason::TooManyDigits)),
-    ("1234567", 3, 3, Zeros::Leading, Err(Reason::TooManyDigits)),
+    ("2540", 3, 3, Trailing, Ok(254_000_000)),
+    ("00254", 3, 3, Leading, Ok(254_000_000)),
+    ("002540", 3, 3, Full, Ok(254_000_000)),
+    ("-002540", 3, 3, Full, Ok(-254_000_000)),
+    ("2540", 3, 3, Full, Err(NoZeros)),
+    ("0000001", 3, 3, Full, Err(NoZeros)),
+    ("1234567", 3, 3, Trailing, Err(TooManyDigits)),
+    ("1234567", 3, 3, Leading, Err(TooManyDigits)),
     // 2.54 in the formats 2:2 and 2:4.
-    ("0254", 2, 2, Zeros::Leading, Ok(254_000_000)),
-    ("25400", 2, 4, Zeros::Trailing, Ok(254_000_000)),
+    ("0254", 2, 2, Leading, Ok(254_000_000)),
+    ("25400", 2, 4, Trailing, Ok(254_000_000)),
     // One inch by its first two digits, and -0.5 inch by three.
-    ("01", 2, 4, Zeros::Leading, Ok(100_000_000)),
-    ("-005", 2, 4, Zeros::Leading, Ok(-50_000_000)),
+    ("01", 2, 4, Leading, Ok(100_000_000)),
+    ("-005", 2, 4, Leading, Ok(-50_000_000)),
     // The narrowest format.
-    ("1", 1, 1, Zeros::Leading, Ok(100_000_000)),
-    ("1", 1, 1, Zeros::Trailing, Ok(10_000_000)),
-    ("11", 1, 1, Zeros::Full, Ok(110_000_000)),
-    ("111", 1, 1, Zeros::Leading, Err(Reason::TooManyDigits)),
+    ("1", 1, 1, Leading, Ok(100_000_000)),
+    ("1", 1, 1, Trailing, Ok(10_000_000)),
+    ("11", 1, 1, Full, Ok(110_000_000)),
+    ("111", 1, 1, Leading, Err(TooManyDigits)),
     // The widest formats.
-    ("999999999999", 6, 6, Zeros::Full, Ok(99_999_999_999_900)),
-    (
-        "-999999999999",
-        6,
-        6,
-        Zeros::Trailing,
-        Ok(-99_999_999_999_900),
-    ),
-    ("1", 6, 6, Zeros::Leading, Ok(10_000_000_000_000)),
-    ("1", 6, 6, Zeros::Trailing, Ok(100)),
-    (
-        "9999999999999",
-        6,
-        6,
-        Zeros::Trailing,
-        Err(Reason::TooManyDigits),
-    ),
-    ("1", 1, 6, Zeros::Leading, Ok(100_000_000)),
-    ("1", 6, 1, Zeros::Leading, Ok(10_000_000_000_000)),
+    ("999999999999", 6, 6, Full, Ok(99_999_999_999_900)),
+    ("-999999999999", 6, 6, Trailing, Ok(-99_999_999_999_900)),
+    ("1", 6, 6, Leading, Ok(10_000_000_000_000)),
+    ("1", 6, 6, Trailing, Ok(100)),
+    ("9999999999999", 6, 6, Trailing, Err(TooManyDigits)),
+    ("1", 1, 6, Leading, Ok(100_000_000)),
+    ("1", 6, 1, Leading, Ok(10_000_000_000_000)),
     // No digits.
-    ("", 3, 3, Zeros::Full, Err(Reason::BadNumber)),
-    ("+", 3, 3, Zeros::Full, Err(Reason::BadNumber)),
-    ("-", 3, 3, Zeros::Full, Err(Reason::BadNumber)),
-    ("1.5", 3, 3, Zeros::Full, Err(Reason::BadNumber)),
-    ("1-", 3, 3, Zeros::Full, Err(Reason::BadNumber)),
-    ("--1", 3, 3, Zeros::Full, Err(Reason::BadNumber)),
-    ("x", 3, 3, Zeros::Full, Err(Reason::BadNumber)),
+    ("", 3, 3, Full, Err(BadNumber)),
+    ("+", 3, 3, Full, Err(BadNumber)),
+    ("-", 3, 3, Full, Err(BadNumber)),
+    ("1.5", 3, 3, Full, Err(BadNumber)),
+    ("1-", 3, 3, Full, Err(BadNumber)),
+    ("--1", 3, 3, Full, Err(BadNumber)),
+    ("x", 3, 3, Full, Err(BadNumber)),
 ];
 
 #[test]
@@ -294,10 +284,10 @@ fn holes_have_their_range(rt: HostRuntime) {
 #[test]
 fn rules_have_their_ranges(rt: HostRuntime) {
     for &(ring, gap, refusal) in &[
-        (-1, 1, Some(Reason::BadRule)),
-        (0, 0, Some(Reason::BadRule)),
-        (LIMIT + 1, 1, Some(Reason::BadRule)),
-        (0, LIMIT + 1, Some(Reason::BadRule)),
+        (-1, 1, Some(BadRule)),
+        (0, 0, Some(BadRule)),
+        (LIMIT + 1, 1, Some(BadRule)),
+        (0, LIMIT + 1, Some(BadRule)),
         (0, 1, None),
         (LIMIT, LIMIT, None),
     ] {
@@ -325,13 +315,13 @@ fn squares_of_distances_are_exact(rt: HostRuntime) {
 #[test]
 fn reasons_have_their_numbers(rt: HostRuntime) {
     for &(reason, number) in &[
-        (Reason::TooLong, 1),
-        (Reason::BadWord, 14),
-        (Reason::TooManyHoles, 37),
-        (Reason::NotCopper, 45),
-        (Reason::BadSpan, 46),
-        (Reason::NoPlating, 47),
-        (Reason::PlatingConflict, 48),
+        (TooLong, 1),
+        (BadWord, 14),
+        (TooManyHoles, 37),
+        (NotCopper, 45),
+        (BadSpan, 46),
+        (NoPlating, 47),
+        (PlatingConflict, 48),
     ] {
         assert!(rt; reason.number() == number, "of {number}");
     }
@@ -340,27 +330,27 @@ fn reasons_have_their_numbers(rt: HostRuntime) {
 #[test]
 fn reasons_have_their_names(rt: HostRuntime) {
     for &(reason, name) in &[
-        (Reason::TooLong, "TooLong"),
-        (Reason::BareCoordinate, "BareCoordinate"),
-        (Reason::NotCopper, "NotCopper"),
-        (Reason::BadSpan, "BadSpan"),
-        (Reason::NoPlating, "NoPlating"),
-        (Reason::PlatingConflict, "PlatingConflict"),
+        (TooLong, "TooLong"),
+        (BareCoordinate, "BareCoordinate"),
+        (NotCopper, "NotCopper"),
+        (BadSpan, "BadSpan"),
+        (NoPlating, "NoPlating"),
+        (PlatingConflict, "PlatingConflict"),
     ] {
         assert!(rt; reason.name() == name, "of {name}");
     }
 }
 
-const BAD: Result<u8, Reason> = Err(Reason::BadNumber);
+const BAD: Result<u8, Reason> = Err(BadNumber);
 
-const FAR: Result<u8, Reason> = Err(Reason::TooFar);
+const FAR: Result<u8, Reason> = Err(TooFar);
 
 #[test]
 fn of_two_fields_the_first_reason_is_told(rt: HostRuntime) {
     for &(first, second, expected) in &[
-        (FAR, BAD, Err(Reason::BadNumber)),
-        (BAD, FAR, Err(Reason::BadNumber)),
-        (Ok(7), FAR, Err(Reason::TooFar)),
+        (FAR, BAD, Err(BadNumber)),
+        (BAD, FAR, Err(BadNumber)),
+        (Ok(7), FAR, Err(TooFar)),
         (Ok(7), Ok(7), Ok((7, 7))),
     ] {
         assert!(rt; both(first, second) == expected);

@@ -124,21 +124,47 @@ const OTHER_CENTRE: Option<&str> = Some("1.0X0.6X0.6X1.0X0.01X0.4X0.3");
 
 const HELD: Option<&str> = Some("1.0X1.0X0.6X0.6X0X0.4X0.3");
 
+/// A square with rounded corners, whose circles stand first, as one exporter writes it.
+const CIRCLES_FIRST: &[&str] = &[
+    "1,1,$1,$2,$3",
+    "1,1,$1,0-$2,$3",
+    "1,1,$1,0-$2,0-$3",
+    "1,1,$1,$2,0-$3",
+    "20,1,$1,$2,$3,0-$2,$3,0",
+    "20,1,$1,0-$2,$3,0-$2,0-$3,0",
+    "20,1,$1,0-$2,0-$3,$2,0-$3,0",
+    "20,1,$1,$2,0-$3,$2,$3,0",
+    "4,1,4,$2,$3,0-$2,$3,0-$2,0-$3,$2,0-$3,$2,$3,0",
+];
+
+/// Circles before a square: one in it, one about the point of the flash, and one that is partly outside of it.
+const CIRCLE_INSIDE: &[&str] = &["1,1,0.4,0.1,0", "21,1,1,1,0,0,0"];
+
+const CENTRED: &[&str] = &["1,1,0.4,0,0", "21,1,1,1,0,0,0"];
+
+const PARTLY_OUTSIDE: &[&str] = &["1,1,0.4,0.4,0", "21,1,1,1,0,0,0"];
+
+/// The radius of a hole of 0.4 mm and a ring of 0.125 mm, in pm.
+const REACH: i64 = 325_000_000;
+
+/// The parameters of the square whose circles stand first.
+const FAR_CORNERS: Option<&str> = Some("0.2X0.65X0.65");
+
 /// Pieces and the parameters of an aperture, in millimetres, a place in nm, a reach in pm, and whether a hole there is covered;
 /// `None` where the macro is not judged.
-const HOLES: [(&[&str], Option<&str>, i64, i64, i64, Option<bool>); 74] = [
-    (ROUNDED, SQUARE, 175_000, 175_000, 325_000_000, Some(true)),
-    (ROUNDED, SQUARE, 175_001, 0, 325_000_000, Some(false)),
+const HOLES: [(&[&str], Option<&str>, i64, i64, i64, Option<bool>); 81] = [
+    (ROUNDED, SQUARE, 175_000, 175_000, REACH, Some(true)),
+    (ROUNDED, SQUARE, 175_001, 0, REACH, Some(false)),
     (ROUNDED, SQUARE, 265_000, 270_000, 225_000_000, Some(true)),
     (ROUNDED, SQUARE, 265_000, 270_001, 225_000_000, Some(false)),
     (ROUNDED, SQUARE, 275_000, 0, 225_000_000, Some(true)),
     (ROUNDED, SQUARE, 275_001, 0, 225_000_000, Some(false)),
     (DIAMOND, None, 0, 0, 1_200_000_000, Some(true)),
     (DIAMOND, None, 0, 0, 1_200_001_000, Some(false)),
-    (OVAL, OBLIQUE, 605_000, 640_000, 325_000_000, Some(true)),
-    (OVAL, OBLIQUE, 605_000, 640_001, 325_000_000, Some(false)),
-    (OVAL, OBLIQUE, 123_740, -123_740, 325_000_000, Some(true)),
-    (OVAL, OBLIQUE, 123_750, -123_750, 325_000_000, Some(false)),
+    (OVAL, OBLIQUE, 605_000, 640_000, REACH, Some(true)),
+    (OVAL, OBLIQUE, 605_000, 640_001, REACH, Some(false)),
+    (OVAL, OBLIQUE, 123_740, -123_740, REACH, Some(true)),
+    (OVAL, OBLIQUE, 123_750, -123_750, REACH, Some(false)),
     (OVAL, POINT, 0, 0, 850_000_000, Some(true)),
     (OVAL, POINT, 0, 0, 850_001_000, Some(false)),
     (BORDERED, None, 0, 0, 700_000_000, Some(true)),
@@ -154,30 +180,16 @@ const HOLES: [(&[&str], Option<&str>, i64, i64, i64, Option<bool>); 74] = [
     (HOUSE, Some("90.0"), 0, 800_000, 20_000_000, Some(true)),
     (HOUSE, Some("90.0"), 800_000, 0, 20_000_000, Some(false)),
     (HOUSE, Some("45.0"), 0, 0, 225_000_000, None),
-    (
-        &["1,1,0.65,0,0", "1,0,0.1,3,3"],
-        None,
-        0,
-        0,
-        325_000_000,
-        None,
-    ),
-    (&["1,1,0.65,0,0"], None, 0, 0, 325_000_000, Some(true)),
+    (&["1,1,0.65,0,0", "1,0,0.1,3,3"], None, 0, 0, REACH, None),
+    (&["1,1,0.65,0,0"], None, 0, 0, REACH, Some(true)),
     (&["1,1,0.65,0,0"], None, 0, 0, 325_000_001, Some(false)),
-    (
-        &["1,1,0.65,1,0,90"],
-        None,
-        0,
-        1_000_000,
-        325_000_000,
-        Some(true),
-    ),
+    (&["1,1,0.65,1,0,90"], None, 0, 1_000_000, REACH, Some(true)),
     (
         &["1,1,0.65,0,0", "7,0,0,1,0.5,0.1,0"],
         None,
         0,
         0,
-        325_000_000,
+        REACH,
         None,
     ),
     (
@@ -185,7 +197,7 @@ const HOLES: [(&[&str], Option<&str>, i64, i64, i64, Option<bool>); 74] = [
         Some("1.3X0.5"),
         0,
         0,
-        325_000_000,
+        REACH,
         Some(true),
     ),
     (
@@ -193,16 +205,16 @@ const HOLES: [(&[&str], Option<&str>, i64, i64, i64, Option<bool>); 74] = [
         Some("0.0"),
         0,
         0,
-        325_000_000,
+        REACH,
         Some(true),
     ),
-    (&["1,1,2/3+1,0,0"], None, 0, 0, 325_000_000, None),
+    (&["1,1,2/3+1,0,0"], None, 0, 0, REACH, None),
     (
         &["4,1,3,0,0,3,0,0,2,0,0,0"],
         None,
         400_000,
         400_000,
-        325_000_000,
+        REACH,
         Some(true),
     ),
     (
@@ -210,7 +222,7 @@ const HOLES: [(&[&str], Option<&str>, i64, i64, i64, Option<bool>); 74] = [
         None,
         400_000,
         400_000,
-        325_000_000,
+        REACH,
         Some(true),
     ),
     (
@@ -218,7 +230,7 @@ const HOLES: [(&[&str], Option<&str>, i64, i64, i64, Option<bool>); 74] = [
         None,
         400_000,
         400_000,
-        325_000_000,
+        REACH,
         None,
     ),
     (
@@ -226,7 +238,7 @@ const HOLES: [(&[&str], Option<&str>, i64, i64, i64, Option<bool>); 74] = [
         None,
         400_000,
         400_000,
-        325_000_000,
+        REACH,
         None,
     ),
     (
@@ -234,19 +246,19 @@ const HOLES: [(&[&str], Option<&str>, i64, i64, i64, Option<bool>); 74] = [
         None,
         400_000,
         400_000,
-        325_000_000,
+        REACH,
         None,
     ),
     (BAR, None, 500_000, 0, 500_000_000, Some(true)),
     (BAR, None, 500_001, 0, 500_000_000, Some(false)),
-    (&["20,1,1.0,-1,-1,1,1,0"], None, 0, 0, 325_000_000, None),
-    (&["20,1,1.0,0,0,0,0,0"], None, 0, 0, 325_000_000, None),
-    (TURNED, UPRIGHT, 0, 600_000, 325_000_000, Some(true)),
-    (TURNED, LEVEL, 0, 600_000, 325_000_000, Some(false)),
-    (TURNED, Some("2X0.65X335"), 0, 0, 325_000_000, Some(true)),
-    (TURNED, Some("0X0.65X0.0"), 0, 0, 325_000_000, None),
-    (&["1,1,99999.0,0,0"], None, 0, 0, 325_000_000, None),
-    (&["1,1,10000.0,0,0"], None, 0, 0, 325_000_000, Some(true)),
+    (&["20,1,1.0,-1,-1,1,1,0"], None, 0, 0, REACH, None),
+    (&["20,1,1.0,0,0,0,0,0"], None, 0, 0, REACH, None),
+    (TURNED, UPRIGHT, 0, 600_000, REACH, Some(true)),
+    (TURNED, LEVEL, 0, 600_000, REACH, Some(false)),
+    (TURNED, Some("2X0.65X335"), 0, 0, REACH, Some(true)),
+    (TURNED, Some("0X0.65X0.0"), 0, 0, REACH, None),
+    (&["1,1,99999.0,0,0"], None, 0, 0, REACH, None),
+    (&["1,1,10000.0,0,0"], None, 0, 0, REACH, Some(true)),
     (CROSS, WIDE_FIRST, 0, 0, 500_000_000, Some(true)),
     (CROSS, WIDE_FIRST, 0, 0, 500_001_000, Some(false)),
     (CROSS, WIDE_FIRST, 300_000, 300_000, 200_000_000, Some(true)),
@@ -277,7 +289,14 @@ const HOLES: [(&[&str], Option<&str>, i64, i64, i64, Option<bool>); 74] = [
     (CROSS, HELD, 0, 0, 500_000_000, Some(true)),
     (CROSS, HELD, 500_000, 500_000, 0, Some(true)),
     (CROSS, HELD, 500_001, 500_000, 0, Some(false)),
-    (&[], None, 0, 0, 325_000_000, None),
+    (CIRCLES_FIRST, FAR_CORNERS, 0, 0, 750_000_000, Some(true)),
+    (CIRCLES_FIRST, FAR_CORNERS, 0, 0, 750_000_001, Some(false)),
+    (CIRCLE_INSIDE, None, 0, 0, 500_000_000, Some(true)),
+    (CENTRED, None, 0, 0, 200_000_000, Some(true)),
+    (CENTRED, None, 0, 0, 200_000_001, Some(false)),
+    (PARTLY_OUTSIDE, None, 400_000, 0, 200_000_000, Some(true)),
+    (PARTLY_OUTSIDE, None, 0, 0, 0, Some(false)),
+    (&[], None, 0, 0, REACH, None),
 ];
 
 /// Polygons and circles in mm with the parameter 0.0236, and their radii in pm, at metres 1 less than by a cosine rounded up; or `None`.

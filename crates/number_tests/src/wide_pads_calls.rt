@@ -1,5 +1,6 @@
 //! Holes at any angle in the pads of the wide profile, and the greatest rings with which they are covered.
 
+use self::Copper::*;
 use grid_units::{Hole, Point, Rules};
 use pad_shapes::{
     Disc, Obround, Pad, PadShape, PlacedRounded, Rect, Rounded, SharedRounded, SlotShape, WidePad,
@@ -74,11 +75,11 @@ fn rounded(alloc: Global, first: Place, others: &[Place], radius: i16) -> Result
 /// A rounded polygon of the tests; a diamond for every plain pad.
 fn polygon(alloc: Global, copper: Copper) -> Result<Rounded, Fail> {
     match copper {
-        Copper::RoundSquare => {
+        RoundSquare => {
             let others = [(-250, 250), (-250, -250), (250, -250)];
             rounded(alloc, (250, 250), &others, 250)
         }
-        Copper::ObliqueOval => rounded(alloc, (-500, -500), &[(500, 500)], 500),
+        ObliqueOval => rounded(alloc, (-500, -500), &[(500, 500)], 500),
         _ => rounded(
             alloc,
             (1_500, 0),
@@ -97,9 +98,9 @@ fn placed(alloc: Global, shape: Rounded) -> Result<PlacedRounded, Fail> {
 /// A pad of the tests.
 fn pad(alloc: Global, copper: Copper) -> Result<WidePad, Fail> {
     match copper {
-        Copper::Disc => Ok(WidePad::Plain(Pad::Disc(disc()?))),
-        Copper::Rect => Ok(WidePad::Plain(Pad::Rect(rect()?))),
-        Copper::Obround => Ok(WidePad::Plain(Pad::Obround(obround()?))),
+        Disc => Ok(WidePad::Plain(Pad::Disc(disc()?))),
+        Rect => Ok(WidePad::Plain(Pad::Rect(rect()?))),
+        Obround => Ok(WidePad::Plain(Pad::Obround(obround()?))),
         _ => Ok(WidePad::Rounded(placed(alloc, polygon(alloc, copper)?)?)),
     }
 }
@@ -117,67 +118,43 @@ type Row = (Copper, Place, Place, i16, Option<i16>);
 /// A disc of radius 1.25 mm: 0.75 mm are left at a distance of 0.5 mm, of 0.3 and 0.4 mm along the axes, and 0.25 mm at 1.0 mm. Of the
 /// three holes with no ring, one has its first end in the disc, one its second, and one its middle.
 const IN_DISC: [Row; 8] = [
-    (Copper::Disc, (-300, -400), (300, 400), 500, Some(250)),
-    (Copper::Disc, (300, 400), (-400, 300), 500, Some(250)),
-    (Copper::Disc, (300, 400), (300, 400), 500, Some(250)),
-    (Copper::Disc, (-600, -800), (600, 800), 250, Some(0)),
-    (Copper::Disc, (0, 0), (-600, 800), 200, Some(50)),
-    (Copper::Disc, (-300, -400), (900, 1_200), 500, None),
-    (Copper::Disc, (-900, -1_200), (300, 400), 500, None),
-    (Copper::Disc, (-900, -1_200), (900, 1_200), 500, None),
+    (Disc, (-300, -400), (300, 400), 500, Some(250)),
+    (Disc, (300, 400), (-400, 300), 500, Some(250)),
+    (Disc, (300, 400), (300, 400), 500, Some(250)),
+    (Disc, (-600, -800), (600, 800), 250, Some(0)),
+    (Disc, (0, 0), (-600, 800), 200, Some(50)),
+    (Disc, (-300, -400), (900, 1_200), 500, None),
+    (Disc, (-900, -1_200), (300, 400), 500, None),
+    (Disc, (-900, -1_200), (900, 1_200), 500, None),
 ];
 
 /// A rectangle: 0.5 mm are left at x = 0.5 mm and at y = 0.3 mm, 0.4 mm at x = 0.6 mm.
 const IN_RECT: [Row; 3] = [
-    (Copper::Rect, (-500, -300), (400, 300), 300, Some(200)),
-    (Copper::Rect, (-500, -300), (600, 300), 300, Some(100)),
-    (Copper::Rect, (-500, -300), (600, 600), 300, None),
+    (Rect, (-500, -300), (400, 300), 300, Some(200)),
+    (Rect, (-500, -300), (600, 300), 300, Some(100)),
+    (Rect, (-500, -300), (600, 600), 300, None),
 ];
 
 /// An obround whose axis ends at x = 1.0 mm: 0.3 mm are left at 0.2 mm from the axis, as at 0.12 and 0.16 mm past its end; less at
 /// 0.2 and 0.2 mm, where the rectangle of its sides would have 0.3 mm.
 const IN_OBROUND: [Row; 4] = [
-    (
-        Copper::Obround,
-        (-1_120, -160),
-        (1_120, 160),
-        200,
-        Some(100),
-    ),
-    (Copper::Obround, (-1_120, -160), (500, 200), 200, Some(100)),
-    (Copper::Obround, (-1_120, -160), (1_200, 200), 300, None),
-    (Copper::Obround, (-1_120, -160), (1_400, 0), 200, None),
+    (Obround, (-1_120, -160), (1_120, 160), 200, Some(100)),
+    (Obround, (-1_120, -160), (500, 200), 200, Some(100)),
+    (Obround, (-1_120, -160), (1_200, 200), 300, None),
+    (Obround, (-1_120, -160), (1_400, 0), 200, None),
 ];
 
 /// A rounded square: 0.325 mm are left 0.075 mm inside of its corners' box, and 0.225 mm at 0.015 and 0.02 mm past a corner, or 0.025 mm
 /// past an edge. The oval: its radius is left at its two ends. The diamond: 0.72 mm are left 0.48 mm from its centre, across an edge.
 const IN_ROUNDED: [Row; 8] = [
-    (
-        Copper::RoundSquare,
-        (-175, -100),
-        (175, 100),
-        200,
-        Some(125),
-    ),
-    (
-        Copper::RoundSquare,
-        (-265, -270),
-        (265, 270),
-        100,
-        Some(125),
-    ),
-    (Copper::RoundSquare, (-175, -100), (275, 0), 100, Some(125)),
-    (
-        Copper::ObliqueOval,
-        (-500, -500),
-        (500, 500),
-        375,
-        Some(125),
-    ),
-    (Copper::ObliqueOval, (-500, -500), (600, 600), 375, None),
-    (Copper::ObliqueOval, (-600, -600), (600, 600), 375, None),
-    (Copper::Diamond, (300, -400), (-300, 400), 600, Some(120)),
-    (Copper::Diamond, (300, -400), (-900, 1_200), 600, None),
+    (RoundSquare, (-175, -100), (175, 100), 200, Some(125)),
+    (RoundSquare, (-265, -270), (265, 270), 100, Some(125)),
+    (RoundSquare, (-175, -100), (275, 0), 100, Some(125)),
+    (ObliqueOval, (-500, -500), (500, 500), 375, Some(125)),
+    (ObliqueOval, (-500, -500), (600, 600), 375, None),
+    (ObliqueOval, (-600, -600), (600, 600), 375, None),
+    (Diamond, (300, -400), (-300, 400), 600, Some(120)),
+    (Diamond, (300, -400), (-900, 1_200), 600, None),
 ];
 
 /// Whether a pad covers a hole with this ring in micrometres, and not with one that is greater by 1 pm.
@@ -215,7 +192,7 @@ fn each_shape_covers_an_oblique_slot(rt: HostRuntime) -> Result<(), Fail> {
         is_covered(&rect()?, &slot, ring)?,
         is_covered(&obround()?, &slot, ring)?,
         is_covered(&Pad::Obround(obround()?), &slot, ring)?,
-        is_covered(&polygon(rt.alloc(), Copper::Diamond)?, &slot, ring)?,
+        is_covered(&polygon(rt.alloc(), Diamond)?, &slot, ring)?,
     ];
     assert!(rt; covered.iter().all(|it| *it));
     Ok(())
@@ -223,12 +200,12 @@ fn each_shape_covers_an_oblique_slot(rt: HostRuntime) -> Result<(), Fail> {
 
 /// Pads, and their least and greatest x in micrometres.
 const EXTENTS: [(Copper, i16, i16); 6] = [
-    (Copper::Disc, -1_250, 1_250),
-    (Copper::Rect, -1_000, 1_000),
-    (Copper::Obround, -1_500, 1_500),
-    (Copper::RoundSquare, -500, 500),
-    (Copper::ObliqueOval, -1_000, 1_000),
-    (Copper::Diamond, -1_500, 1_500),
+    (Disc, -1_250, 1_250),
+    (Rect, -1_000, 1_000),
+    (Obround, -1_500, 1_500),
+    (RoundSquare, -500, 500),
+    (ObliqueOval, -1_000, 1_000),
+    (Diamond, -1_500, 1_500),
 ];
 
 /// The zone of the origin alone.
@@ -261,8 +238,8 @@ const DRILLED: [(Place, Place, i16); 3] = [
 
 #[test]
 fn the_search_of_rings_takes_wide_pads(rt: HostRuntime) -> Result<(), Fail> {
-    let disc = pad(rt.alloc(), Copper::Disc)?;
-    let diamond = pad(rt.alloc(), Copper::Diamond)?;
+    let disc = pad(rt.alloc(), Disc)?;
+    let diamond = pad(rt.alloc(), Diamond)?;
     let mut holes = Vec::new(rt.alloc());
     for &(from, to, radius) in &DRILLED {
         holes.push(Drilled {

@@ -1,5 +1,5 @@
 -- A check of a package takes copper files.
-use Rattle.package_check.proofs.Common.{◌≡◌, ◌<◌, ◌≤◌, ◌+◌, ◌||◌, ◌&&◌, eqb, ltb, ℕ, suc, List, [], ◌∷◌, Ok, Err, Result, Option, Some, None, OnOk, Bool, true, false, length, map, get_or, slice_get, inl, inr, arith, refl, sym, ap, ap₂, subst, ◌∙◌, alloc_error, option_map, sum_by, AllocError, both_ways, cases_eq, false≢true, get_or-map, length-map, count_by_more_no, count_by_more_yes, sum_by-cons, none-some, slice_get-map, slice_get_read, GridRules, Answers, LayerSpan, Fail, Drilled, hole_count, CheckView, holes_in_slot, is_drill_in, is_drill_sum, AreHolesOf, HasJudged, HasJudgedAll, IsJudgedOf, JudgesThose, TakesCopper, drill_files, layer_number, HoldsThose, IsPutAt, ReadsInto, is_kind_at, is_kind_of, is_wanted, kept_at, next_stop, IsLeftOf, Judges, JudgesCopper, Setting, FileView, HasContent, HaveContents, is_copper, sum_of, unnamed_file, FileSum, PackageFault, Content, Judged}
+use Rattle.package_check.proofs.Common.{◌≡◌, ◌<◌, ◌+◌, ◌||◌, eqb, ℕ, suc, List, [], ◌∷◌, Ok, Err, Result, Option, Some, None, OnOk, Bool, true, false, length, map, get_or, slice_get, inl, inr, arith, refl, sym, ap, ap₂, subst, ◌∙◌, alloc_error, sum_by, AllocError, both_ways, cases_eq, false≢true, get_or-map, length-map, count_by_more_no, count_by_more_yes, sum_by-cons, none-some, GridRules, Answers, Said, Fail, Drilled, hole_count, CheckView, holes_in_slot, is_drill_in, is_drill_sum, AreHolesOf, HasJudged, HasJudgedAll, IsJudgedOf, JudgesThose, TakesCopper, drill_files, layer_number, HoldsThose, IsPutAt, ReadsInto, is_kind_at, is_wanted, kept_at, next_stop, IsLeftOf, Judges, JudgesCopper, Setting, FileView, HasContent, HaveContents, is_copper, sum_of, unnamed_file, FileSum, PackageFault, Content, Judged, Fault, ReadsCopper, Reads, ReadsUnlessBadSpan, is_bad_span, LayerSpan}
 use Rattle.grid_units.specs.declared.fault.Fail.TheVariants as fails
 use Rattle.manifest.specs.declared.Role.TheVariants as role
 use Rattle.package_check.specs.CheckViews.{setting_of}
@@ -59,32 +59,38 @@ pub layer_left : (rules : GridRules) (holes : List Drilled) (layer : ℕ) (s : F
 layer_left rules holes layer s one copper h = ap is_drill_sum h.2.sum ∙ layer_counted s h.0 copper (content_read s h.0 h.1)
 
 -- a copper file without a span is judged by its bytes
-pub judged_bytes : (rules : GridRules) (holes : List Drilled) (layer layers : ℕ) (span : Option LayerSpan) (bytes : List ℕ) (r : Result Judged Fail) → span ≡ None → Answers {T = Judged} (λ one. one) (JudgesCopper rules holes layer bytes) r
-    → Answers {T = Judged} (λ one. one) (Judges rules holes layer (unnamed_file role.Copper span (record { layers = layers; profile = rules.profile }) bytes)) r
-judged_bytes rules holes layer layers None bytes (Ok one) none h = h
-judged_bytes rules holes layer layers None bytes (Err fails.Memory) none h = tt
-judged_bytes rules holes layer layers None bytes (Err (fails.Refused f)) none h = h
-judged_bytes rules holes layer layers (Some s) bytes r none h = absurd (none-some s (sym none))
+pub judged_bytes : (rules : GridRules) (holes : List Drilled) (layer layers : ℕ) (said : Said) (bytes : List ℕ) (r : Result Judged Fail) → said.span ≡ None → Answers {T = Judged} (λ one. one) (JudgesCopper rules holes layer bytes) r
+    → Answers {T = Judged} (λ one. one) (Judges rules holes layer (unnamed_file role.Copper said (record { layers = layers; profile = rules.profile }) bytes)) r
+judged_bytes rules holes layer layers said bytes r none h = by r h
+  where
+    good : (answer : Result Content Fault) → ReadsCopper rules.profile bytes answer → Reads (unnamed_file role.Copper said (record { layers = layers; profile = rules.profile }) bytes) answer
+    good answer h =
+        subst (λ (t : Bool). ReadsUnlessBadSpan t (unnamed_file role.Copper said (record { layers = layers; profile = rules.profile }) bytes) answer) (ap (λ (s : Option LayerSpan). is_bad_span role.Copper s layers) (sym none)) h
+
+    by : (r : Result Judged Fail) → Answers {T = Judged} (λ one. one) (JudgesCopper rules holes layer bytes) r → Answers {T = Judged} (λ one. one) (Judges rules holes layer (unnamed_file role.Copper said (record { layers = layers; profile = rules.profile }) bytes)) r
+    by (Ok one) h = (h.0, good (Ok h.0) h.1, h.2)
+    by (Err fails.Memory) h = tt
+    by (Err (fails.Refused f)) h = good (Err f) h
 
 -- ---- a file is judged, and put into its slot
 
-module _ (rules : GridRules) (holes : List Drilled) (layer index layers : ℕ) (span : Option LayerSpan) (bytes : List ℕ) (before : List (Option Judged)) where
+module _ (rules : GridRules) (holes : List Drilled) (layer index layers : ℕ) (said : Said) (bytes : List ℕ) (before : List (Option Judged)) where
   -- what a step of reading does
   abbrev Puts : List (Option Judged) → Result (Unit {0}) Fail → Type 0
-  Puts after r = ReadsInto (λ one. Judges rules holes layer (unnamed_file role.Copper span (record { layers = layers; profile = rules.profile }) bytes) (Ok one)) index (unnamed_file role.Copper span (record { layers = layers; profile = rules.profile }) bytes) before after r
+  Puts after r = ReadsInto (λ one. Judges rules holes layer (unnamed_file role.Copper said (record { layers = layers; profile = rules.profile }) bytes) (Ok one)) index (unnamed_file role.Copper said (record { layers = layers; profile = rules.profile }) bytes) before after r
 
-  pub puts_none : (e : Fail) → Answers {T = Judged} (λ one. one) (Judges rules holes layer (unnamed_file role.Copper span (record { layers = layers; profile = rules.profile }) bytes)) (Err e) → Puts before (Err e)
+  pub puts_none : (e : Fail) → Answers {T = Judged} (λ one. one) (Judges rules holes layer (unnamed_file role.Copper said (record { layers = layers; profile = rules.profile }) bytes)) (Err e) → Puts before (Err e)
   puts_none fails.Memory h = tt
   puts_none (fails.Refused f) h = (h, refl)
 
 -- what is read of a file does not depend on its name
-judged_named : (rules : GridRules) (holes : List Drilled) (layer number index : ℕ) (name : List ℕ) (span : Option LayerSpan) (bytes : List ℕ) (n : Setting) (before after : List (Option Judged)) (r : Result (Unit {0}) Fail) → layer ≡ number
-    → ReadsInto (λ one. Judges rules holes layer (unnamed_file role.Copper span n bytes) (Ok one)) index (unnamed_file role.Copper span n bytes) before after r
-    → ReadsInto (λ one. Judges rules holes number (record { role = role.Copper; name = name; span = span; bytes = bytes; setting = n }) (Ok one)) index (record { role = role.Copper; name = name; span = span; bytes = bytes; setting = n }) before after r
-judged_named rules holes layer number index name span bytes n before after (Ok u) same h =
-    (h.0, (h.1.0, any_name role.Copper name span bytes n (Ok h.1.0) h.1.1, subst (λ (k : ℕ). IsLeftOf rules holes k h.1.0 h.0) same h.1.2), h.2)
-judged_named rules holes layer number index name span bytes n before after (Err fails.Memory) same h = tt
-judged_named rules holes layer number index name span bytes n before after (Err (fails.Refused f)) same h = (any_name role.Copper name span bytes n (Err f) h.0, h.1)
+judged_named : (rules : GridRules) (holes : List Drilled) (layer number index : ℕ) (name : List ℕ) (said : Said) (bytes : List ℕ) (n : Setting) (before after : List (Option Judged)) (r : Result (Unit {0}) Fail) → layer ≡ number
+    → ReadsInto (λ one. Judges rules holes layer (unnamed_file role.Copper said n bytes) (Ok one)) index (unnamed_file role.Copper said n bytes) before after r
+    → ReadsInto (λ one. Judges rules holes number (record { role = role.Copper; name = name; said = said; bytes = bytes; setting = n }) (Ok one)) index (record { role = role.Copper; name = name; said = said; bytes = bytes; setting = n }) before after r
+judged_named rules holes layer number index name said bytes n before after (Ok u) same h =
+    (h.0, (h.1.0, any_name role.Copper name said bytes n (Ok h.1.0) h.1.1, subst (λ (k : ℕ). IsLeftOf rules holes k h.1.0 h.0) same h.1.2), h.2)
+judged_named rules holes layer number index name said bytes n before after (Err fails.Memory) same h = tt
+judged_named rules holes layer number index name said bytes n before after (Err (fails.Refused f)) same h = (any_name role.Copper name said bytes n (Err f) h.0, h.1)
 
 -- a check that goes on after a file went on before it
 went_on : (stopped : Option PackageFault) (index : ℕ) (read : Result (Unit {0}) Fail) → next_stop stopped index read ≡ None → stopped ≡ None
@@ -108,16 +114,16 @@ judged_passed check index layer source off = λ sources at number rules taken h.
 }
 
 -- a copper file that stands before any that is refused so far
-pub judged_more : (before after : CheckView) (index layer : ℕ) (name : List ℕ) (span : Option LayerSpan) (bytes : List ℕ) (read : Result (Unit {0}) Fail) (r : Result (Unit {0}) AllocError) → is_wanted before.stopped index ≡ true
+pub judged_more : (before after : CheckView) (index layer : ℕ) (name : List ℕ) (said : Said) (bytes : List ℕ) (read : Result (Unit {0}) Fail) (r : Result (Unit {0}) AllocError) → is_wanted before.stopped index ≡ true
     → after.holes ≡ before.holes → after.rules ≡ before.rules
-    → (is_drill_in (kept_at before.slots index) ≡ false → ReadsInto (λ one. Judges before.rules before.holes layer (unnamed_file role.Copper span (setting_of before) bytes) (Ok one)) index (unnamed_file role.Copper span (setting_of before) bytes) before.slots after.slots read)
+    → (is_drill_in (kept_at before.slots index) ≡ false → ReadsInto (λ one. Judges before.rules before.holes layer (unnamed_file role.Copper said (setting_of before) bytes) (Ok one)) index (unnamed_file role.Copper said (setting_of before) bytes) before.slots after.slots read)
     → after.stopped ≡ next_stop before.stopped index read → (after.stopped ≡ Some stop.Memory → r ≡ Err alloc_error)
-    → OnOk r (TakesCopper before after index layer (record { role = role.Copper; name = name; span = span; bytes = bytes; setting = setting_of before }))
-judged_more before after index layer name span bytes read (Err e) on holes rules reads stops memory = tt
-judged_more before after index layer name span bytes read (Ok v) on holes rules reads stops memory = λ sources at number under taken h.
-    let source : FileView = record { role = role.Copper; name = name; span = span; bytes = bytes; setting = setting_of before } in
+    → OnOk r (TakesCopper before after index layer (record { role = role.Copper; name = name; said = said; bytes = bytes; setting = setting_of before }))
+judged_more before after index layer name said bytes read (Err e) on holes rules reads stops memory = tt
+judged_more before after index layer name said bytes read (Ok v) on holes rules reads stops memory = λ sources at number under taken h.
+    let source : FileView = record { role = role.Copper; name = name; said = said; bytes = bytes; setting = setting_of before } in
     let free = no_drill before sources under taken index source h at refl on in
-    let named = judged_named before.rules before.holes layer (layer_number sources index) index name span bytes (setting_of before) before.slots after.slots read number (reads free) in
+    let named = judged_named before.rules before.holes layer (layer_number sources index) index name said bytes (setting_of before) before.slots after.slots read number (reads free) in
     record {
       same_rules = rules ∙ h.same_rules;
       holds = subst (λ (rs : GridRules). HoldsThose (IsJudgedOf rs after.holes sources) after.slots after.stopped sources (λ i. taken i || eqb i index)) (sym rules)

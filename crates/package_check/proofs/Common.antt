@@ -1,9 +1,10 @@
 -- Names that proofs of this crate cite, passed on from one place. Declares nothing.
 pub use Rattle.std.proofs.Common.{Bool, Bor, Err, IfErr, IfOk, List, None, Ok, OnOk, Option, Result, Some, [], ap, append_assoc, ap₂, arith, cond, drop, eqb, false, get_or, inl, inr, leb, length, ltb, map, min, not, pos, refl, rules, set, slice_get, subst, suc, sym, take, true, zero, zero-add, ℕ, ◌&&◌, ◌*◌, ◌++◌, ◌+◌, ◌-◌, ◌<◌, ◌||◌, ◌↔◌, ◌∙◌, ◌∷◌, ◌≡◌, ◌≢◌, ◌≤◌, ◌⊎◌, tests}
+pub use Rattle.drill_lines.specs.declared.command.CoordinateFormat.{CoordinateFormat}
 pub use Rattle.drill_lines.specs.declared.command.DrillCommand.{DrillCommand}
 pub use Rattle.drill_text.specs.MixedLaws.{CalledIsListed, KindsReadTheSame, ListedIsCalled, UncontradictedIsLegal}
 pub use Rattle.drill_text.specs.Plating.{calls_plated, plated_of, says_otherwise}
-pub use Rattle.drill_text.specs.Profiles.{Kind, ReadsAsBy, ReadsBy, ReadsIn, ShowsBy, mixed_in, unplated_in}
+pub use Rattle.drill_text.specs.Profiles.{Kind, ReadsAsBy, ReadsBy, ReadsIn, ShowsBy, mixed_in, by_role, unplated_in}
 pub use Rattle.drill_text.specs.Texts.{IsDrillText}
 pub use Rattle.gerber_commands.specs.declared.command.Command.{Command}
 pub use Rattle.gerber_text.specs.Writing.{without_places}
@@ -23,13 +24,14 @@ pub use Rattle.layer_image.specs.Holding.{LayerStands, ShowsLayerFaultIn, has_fo
 pub use Rattle.layer_image.specs.Kept.{KeptLayer, ReadsKeptIn, counting_profile, plain}
 pub use Rattle.layer_image.specs.Layers.{LayerImage, ReadingIsUniqueIn, ReadsLayerIn, StrictLayers}
 pub use Rattle.manifest.specs.declared.Role.{Role}
+pub use Rattle.manifest.specs.declared.Said.{Said}
 pub use Rattle.package_check.specs.AlikePackages.{AllReadAlike, AnswerExists, AnswerIsUnique, ReadingExists, ReadingIsUnique, SameAnswers}
 pub use Rattle.board.specs.Boards.{BoardView, CountsAddUp, board_findings, hole_count, holes_before, numbered_in}
 pub use Rattle.package_check.specs.Boards.{AreDrawnOf, AreFileLists, FileCountsAddUp, IsBoard, IsDrawnBoard, IsFlashedBoard, OfCopper, Returns, board_of, report_of_board, LayersHaveFiles}
 pub use Rattle.package_check.specs.CheckViews.{CheckView, holes_in_slot, is_drill_in, is_drill_sum}
 pub use Rattle.package_check.specs.Checking.{AreHolesOf, HasJudged, HasJudgedAll, IsJudgedOf, JudgesThose, TakesCopper, drill_files, layer_number}
 pub use Rattle.package_check.specs.ContentViews.{DrillView, LayerView}
-pub use Rattle.package_check.specs.FileTexts.{Draws, HasContours, HasLayerView, HasMacros, HasRows, ReadsDrill, ReadsLayer, ReadsMixed, drill_kind, drill_view, is_copper_function, layer_view, holes_with_platings, mixed_holes, plating_in}
+pub use Rattle.package_check.specs.FileTexts.{Draws, HasContours, HasLayerView, HasMacros, HasRows, ReadsDrill, ReadsLayer, ReadsMixed, drill_kind, drill_view, format_in, is_copper_function, layer_view, holes_with_platings, mixed_holes, mixed_kind, plating_in}
 pub use Rattle.package_check.specs.Holding.{HasShown, HasTaken, HasTakenAll, HoldsThose, IsKeptOf, IsOutOfMemory, IsPutAt, ReadsAt, ReadsInto, StoppedAmong, TakesFile, TakesThose, contents_in, is_kind, is_kind_at, is_kind_of, is_wanted, kept_at, next_stop, setting_of, shown_board, shown_in}
 pub use Rattle.package_check.specs.HoleViews.{HolesView}
 pub use Rattle.package_check.specs.Inner.Leftovers.{AreFileStarts, AreStartsOf, LeftView, count_in, holes_in, index_in, layer_indexes_in, left_in, left_report, rings_in, sums_in}
@@ -40,7 +42,7 @@ pub use Rattle.package_check.specs.Reports.{ReportView}
 pub use Rattle.package_check.specs.Soundness.{AreDrilledBy, HolesAreSaidOnce, IsRun, IsSound, LiesAsAllowed, MakePads, PadsAreSaidOnce, PassingIsSound, SaysHoles, SaysPads, SoundIsStraight}
 pub use Rattle.package_check.specs.SoundnessAsRead.{AreLegal, IsPlatedThrough, PassingIsSoundAsRead, SoundAsReadIsSound, drilled_in}
 pub use Rattle.package_check.specs.Texts.{file_line, finding_line, last_line, name_words, report_text, rules_line, span_words, text_of}
-pub use Rattle.package_check.specs.WiderProfile.{FindsNoMore, IsUncontradicted, ReadIsUncontradicted, WideFindsNoMore, read_in, WideAnswersByBoard, is_called_plated, in_wide, layer_rings, wide_rings}
+pub use Rattle.package_check.specs.WiderProfile.{FindsNoMore, IsUncontradicted, ReadIsUncontradicted, WideFindsNoMore, read_in, said_in, WideAnswersByBoard, is_called_plated, in_wide, layer_rings, wide_rings}
 pub use Rattle.board_report.specs.BoardReport.{is_gap, IsGapEntry, IsRingEntry, conflict_in}
 pub use Rattle.board.specs.declared.FileSum.{FileSum}
 pub use Rattle.board.specs.declared.Numbered.{Numbered}

@@ -1,5 +1,5 @@
 -- A check that reads a copper file piece by piece.
-use Rattle.package_check.proofs.Common.{◌≡◌, ℕ, Bool, true, false, List, [], Ok, Err, Option, None, Result, OnOk, ap, subst, sym, ◌∙◌, AllocError, GridRules, Answers, LayerSpan, Fail, Drilled, CheckView, AreHolesOf, HasJudged, IsJudgedOf, TakesCopper, HoldsThose, is_wanted, HasTriedPadsOf, Judges, HasFailed, HasOpenedCopper, HasReadCopper, Setting, FileView, is_bad_span, unnamed_file, PackageFault, Judged, Profile, LayerStands, HolesView, LayerReader}
+use Rattle.package_check.proofs.Common.{◌≡◌, ℕ, Bool, true, false, List, [], Ok, Err, Option, None, Result, OnOk, ap, subst, sym, ◌∙◌, AllocError, GridRules, Answers, Said, LayerSpan, Fail, Drilled, CheckView, AreHolesOf, HasJudged, IsJudgedOf, TakesCopper, HoldsThose, is_wanted, HasTriedPadsOf, Judges, HasFailed, HasOpenedCopper, HasReadCopper, Setting, FileView, is_bad_span, unnamed_file, PackageFault, Judged, Profile, LayerStands, HolesView, LayerReader}
 use Rattle.grid_units.specs.declared.fault.Fail.TheVariants as fails
 use Rattle.manifest.specs.declared.Role.TheVariants as role
 use Rattle.package_check.specs.CheckViews.{holes_of, setting_of}
@@ -13,10 +13,10 @@ pub no_span : (span : Option LayerSpan) (n : ℕ) → span ≡ None → is_bad_s
 no_span span n none = ap (λ (s : Option LayerSpan). is_bad_span role.Copper s n) none
 
 -- a file that has failed is refused in the end
-pub failed_judged : (rules : GridRules) (holes : List Drilled) (layer : ℕ) (span : Option LayerSpan) (n : Setting) (text : List ℕ) (e : Fail) → HasFailed role.Copper span n e text
-    → Answers {T = Judged} (λ one. one) (Judges rules holes layer (unnamed_file role.Copper span n text)) (Err e)
-failed_judged rules holes layer span n text fails.Memory h = tt
-failed_judged rules holes layer span n text (fails.Refused f) h = failed_read role.Copper span n text (fails.Refused f) h
+pub failed_judged : (rules : GridRules) (holes : List Drilled) (layer : ℕ) (said : Said) (n : Setting) (text : List ℕ) (e : Fail) → HasFailed role.Copper said n e text
+    → Answers {T = Judged} (λ one. one) (Judges rules holes layer (unnamed_file role.Copper said n text)) (Err e)
+failed_judged rules holes layer said n text fails.Memory h = tt
+failed_judged rules holes layer said n text (fails.Refused f) h = failed_read role.Copper said n text (fails.Refused f) h
 
 -- a check stands as it did
 module _ (start check : CheckView) (holes : check.holes ≡ start.holes) (rules : check.rules ≡ start.rules) (slots : check.slots ≡ start.slots) (stops : check.stopped ≡ start.stopped) where
@@ -36,20 +36,20 @@ module _ (start check : CheckView) (holes : check.holes ≡ start.holes) (rules 
   since after index layer source (Err e) takes = tt
 
 -- an open file has read its text as the layer that it is
-pub own_copper : (start check : CheckView) (index layer : ℕ) (span : Option LayerSpan) (file : OpenCopper) (text : List ℕ) → HasOpenedCopper start check index layer span file text → is_wanted check.stopped file.index ≡ true
-    → HasReadCopper (holes_of check) file.layer span check.layers file.reading text
-own_copper start check index layer span file text h on =
-    subst (λ (k : ℕ). HasReadCopper (holes_of check) k span check.layers file.reading text) (sym h.same_layer) (h.reads (ap (λ (k : ℕ). is_wanted check.stopped k) (sym h.same_index) ∙ on))
+pub own_copper : (start check : CheckView) (index layer : ℕ) (said : Said) (file : OpenCopper) (text : List ℕ) → HasOpenedCopper start check index layer said file text → is_wanted check.stopped file.index ≡ true
+    → HasReadCopper (holes_of check) file.layer said check.layers file.reading text
+own_copper start check index layer said file text h on =
+    subst (λ (k : ℕ). HasReadCopper (holes_of check) k said check.layers file.reading text) (sym h.same_layer) (h.reads (ap (λ (k : ℕ). is_wanted check.stopped k) (sym h.same_index) ∙ on))
 
 -- an open file is ended
-pub ended : (start check after : CheckView) (file : OpenCopper) (index layer : ℕ) (span : Option LayerSpan) (text name : List ℕ) (r : Result (Unit {0}) AllocError) → HasOpenedCopper start check index layer span file text
-    → OnOk r (TakesCopper check after file.index file.layer (record { role = role.Copper; name = name; span = span; bytes = text; setting = setting_of check }))
-    → OnOk r (TakesCopper start after index layer (record { role = role.Copper; name = name; span = span; bytes = text; setting = setting_of start }))
-ended start check after file index layer span text name r h takes =
-    since start check h.same_holes h.same_rules h.same_slots h.same_stop after index layer (record { role = role.Copper; name = name; span = span; bytes = text; setting = setting_of start }) r
-    (subst (λ (n : Setting). OnOk r (TakesCopper check after index layer (record { role = role.Copper; name = name; span = span; bytes = text; setting = n }))) (λ j. record { layers = h.same_layers j; profile = (h.same_rules j).profile })
-    (subst (λ (k : ℕ). OnOk r (TakesCopper check after index k (record { role = role.Copper; name = name; span = span; bytes = text; setting = setting_of check }))) h.same_layer
-    (subst (λ (k : ℕ). OnOk r (TakesCopper check after k file.layer (record { role = role.Copper; name = name; span = span; bytes = text; setting = setting_of check }))) h.same_index takes)))
+pub ended : (start check after : CheckView) (file : OpenCopper) (index layer : ℕ) (said : Said) (text name : List ℕ) (r : Result (Unit {0}) AllocError) → HasOpenedCopper start check index layer said file text
+    → OnOk r (TakesCopper check after file.index file.layer (record { role = role.Copper; name = name; said = said; bytes = text; setting = setting_of check }))
+    → OnOk r (TakesCopper start after index layer (record { role = role.Copper; name = name; said = said; bytes = text; setting = setting_of start }))
+ended start check after file index layer said text name r h takes =
+    since start check h.same_holes h.same_rules h.same_slots h.same_stop after index layer (record { role = role.Copper; name = name; said = said; bytes = text; setting = setting_of start }) r
+    (subst (λ (n : Setting). OnOk r (TakesCopper check after index layer (record { role = role.Copper; name = name; said = said; bytes = text; setting = n }))) (λ j. record { layers = h.same_layers j; profile = (h.same_rules j).profile })
+    (subst (λ (k : ℕ). OnOk r (TakesCopper check after index k (record { role = role.Copper; name = name; said = said; bytes = text; setting = setting_of check }))) h.same_layer
+    (subst (λ (k : ℕ). OnOk r (TakesCopper check after k file.layer (record { role = role.Copper; name = name; said = said; bytes = text; setting = setting_of check }))) h.same_index takes)))
 
 -- ---- readers of layers
 

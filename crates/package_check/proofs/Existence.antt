@@ -1,5 +1,5 @@
 -- Each file has a content or a fault, and so each package has an answer.
-use Rattle.package_check.proofs.Common.{◌≡◌, ◌↔◌, ℕ, Bool, true, false, suc, List, [], ◌∷◌, Option, Result, Ok, Err, refl, arith, ◌⊎◌, inl, inr, LayerSpan, GridRules, Fault, Kind, ReadsBy, mixed_in, DrillCommand, without_places, Profile, Strict, Wide, Role, Content, ReadingExists, AnswerExists, LayerView, FileView, Setting, Reads, ReadsBytes, ReadsUnlessBadSpan, ReadsCopper, ReadsHoles, ReadsMixedHoles, HasContent, HaveContents, IsFirstRefused, IsAnswer, is_bad_span, bad_span, not_copper, report_on, ReadsLayer, drill_kind, drill_view, layer_view, mixed_holes, ReportView}
+use Rattle.package_check.proofs.Common.{◌≡◌, ◌↔◌, ℕ, Bool, true, false, suc, List, [], ◌∷◌, Result, Ok, Err, refl, arith, ◌⊎◌, inl, inr, GridRules, Fault, Kind, ReadsBy, DrillCommand, without_places, Profile, Strict, Wide, Role, Said, Content, ReadingExists, AnswerExists, LayerView, FileView, Setting, Reads, ReadsBytes, ReadsUnlessBadSpan, ReadsCopper, ReadsHoles, ReadsMixedHoles, HasContent, HaveContents, IsFirstRefused, IsAnswer, is_bad_span, bad_span, not_copper, report_on, ReadsLayer, drill_kind, drill_view, layer_view, mixed_holes, mixed_kind, ReportView}
 use Rattle.drill_text.specs.Faults.{HasAnswer, IsFirstFault}
 use Rattle.drill_text.specs.Profiles as drills
 use Rattle.layer_image.specs.Layers as layers
@@ -24,41 +24,41 @@ module _ (each_layer : layers.EachTextAnswersIn) (each_drill : (text : List ℕ)
   some_copper : (profile : Profile) (bytes : List ℕ) → (answer : Result Content Fault) × ReadsCopper profile bytes answer
   some_copper profile bytes = let read = each_layer profile bytes in of_layer profile bytes read.0 read.1
 
-  of_drill : (plated : Bool) (span : Option LayerSpan) (bytes : List ℕ) → HasAnswer bytes → (answer : Result Content Fault) × ReadsHoles Strict plated span bytes answer
-  of_drill plated span bytes (inl h) = (Ok (content.Drill plated span (drill_view plated h.0)), ((h.0, h.1, refl), refl, refl))
-  of_drill plated span bytes (inr h) = (Err h.0, (first bytes h.0).1 h.1)
+  of_drill : (plated : Bool) (said : Said) (bytes : List ℕ) → HasAnswer bytes → (answer : Result Content Fault) × ReadsHoles Strict plated said bytes answer
+  of_drill plated said bytes (inl h) = (Ok (content.Drill plated said.span (drill_view plated h.0)), ((h.0, h.1, refl), refl, refl))
+  of_drill plated said bytes (inr h) = (Err h.0, (first bytes h.0).1 h.1)
 
-  of_wide_drill : (plated : Bool) (span : Option LayerSpan) (bytes : List ℕ) (answer : Result (List DrillCommand) Fault) → ReadsBy (drill_kind Wide plated) bytes answer → (answer : Result Content Fault) × ReadsHoles Wide plated span bytes answer
-  of_wide_drill plated span bytes (Ok commands) h = (Ok (content.Drill plated span (drill_view plated commands)), ((commands, h, refl), refl, refl))
-  of_wide_drill plated span bytes (Err f) h = (Err f, h)
+  of_wide_drill : (plated : Bool) (said : Said) (bytes : List ℕ) (answer : Result (List DrillCommand) Fault) → ReadsBy (drill_kind Wide said.format plated) bytes answer → (answer : Result Content Fault) × ReadsHoles Wide plated said bytes answer
+  of_wide_drill plated said bytes (Ok commands) h = (Ok (content.Drill plated said.span (drill_view plated commands)), ((commands, h, refl), refl, refl))
+  of_wide_drill plated said bytes (Err f) h = (Err f, h)
 
-  some_holes : (profile : Profile) (plated : Bool) (span : Option LayerSpan) (bytes : List ℕ) → (answer : Result Content Fault) × ReadsHoles profile plated span bytes answer
-  some_holes Strict plated span bytes = of_drill plated span bytes (each_drill bytes)
-  some_holes Wide plated span bytes = let read = each_kind (drill_kind Wide plated) bytes in of_wide_drill plated span bytes read.0 read.1
+  some_holes : (profile : Profile) (plated : Bool) (said : Said) (bytes : List ℕ) → (answer : Result Content Fault) × ReadsHoles profile plated said bytes answer
+  some_holes Strict plated said bytes = of_drill plated said bytes (each_drill bytes)
+  some_holes Wide plated said bytes = let read = each_kind (drill_kind Wide said.format plated) bytes in of_wide_drill plated said bytes read.0 read.1
 
-  of_mixed : (profile : Profile) (span : Option LayerSpan) (bytes : List ℕ) (answer : Result (List DrillCommand) Fault) → ReadsBy (mixed_in profile) bytes answer → (answer : Result Content Fault) × ReadsMixedHoles profile span bytes answer
-  of_mixed profile span bytes (Ok commands) h = (Ok (content.Mixed span (mixed_holes span commands)), ((commands, h, refl), refl))
-  of_mixed profile span bytes (Err f) h = (Err f, h)
+  of_mixed : (profile : Profile) (said : Said) (bytes : List ℕ) (answer : Result (List DrillCommand) Fault) → ReadsBy (mixed_kind profile said.format) bytes answer → (answer : Result Content Fault) × ReadsMixedHoles profile said bytes answer
+  of_mixed profile said bytes (Ok commands) h = (Ok (content.Mixed said.span (mixed_holes said.span commands)), ((commands, h, refl), refl))
+  of_mixed profile said bytes (Err f) h = (Err f, h)
 
-  some_mixed : (profile : Profile) (span : Option LayerSpan) (bytes : List ℕ) → (answer : Result Content Fault) × ReadsMixedHoles profile span bytes answer
-  some_mixed profile span bytes = let read = each_kind (mixed_in profile) bytes in of_mixed profile span bytes read.0 read.1
+  some_mixed : (profile : Profile) (said : Said) (bytes : List ℕ) → (answer : Result Content Fault) × ReadsMixedHoles profile said bytes answer
+  some_mixed profile said bytes = let read = each_kind (mixed_kind profile said.format) bytes in of_mixed profile said bytes read.0 read.1
 
-  by_role : (r : Role) (name : List ℕ) (span : Option LayerSpan) (bytes : List ℕ) (n : Setting)
-      → (answer : Result Content Fault) × ReadsBytes (record { role = r; name = name; span = span; bytes = bytes; setting = n }) answer
-  by_role role.Copper name span bytes n = some_copper n.profile bytes
-  by_role role.Plated name span bytes n = some_holes n.profile true span bytes
-  by_role role.Unplated name span bytes n = some_holes n.profile false span bytes
-  by_role role.Mixed name span bytes n = some_mixed n.profile span bytes
+  by_role : (r : Role) (name : List ℕ) (said : Said) (bytes : List ℕ) (n : Setting)
+      → (answer : Result Content Fault) × ReadsBytes (record { role = r; name = name; said = said; bytes = bytes; setting = n }) answer
+  by_role role.Copper name said bytes n = some_copper n.profile bytes
+  by_role role.Plated name said bytes n = some_holes n.profile true said bytes
+  by_role role.Unplated name said bytes n = some_holes n.profile false said bytes
+  by_role role.Mixed name said bytes n = some_mixed n.profile said bytes
 
   some_bytes : (source : FileView) → (answer : Result Content Fault) × ReadsBytes source answer
-  some_bytes source = by_role source.role source.name source.span source.bytes source.setting
+  some_bytes source = by_role source.role source.name source.said source.bytes source.setting
 
   some_unless : (bad : Bool) (source : FileView) → (answer : Result Content Fault) × ReadsUnlessBadSpan bad source answer
   some_unless true source = (Err bad_span, refl)
   some_unless false source = some_bytes source
 
   pub reading_exists : ReadingExists
-  reading_exists source = some_unless (is_bad_span source.role source.span source.setting.layers) source
+  reading_exists source = some_unless (is_bad_span source.role source.said.span source.setting.layers) source
 
 module _ (some : ReadingExists) where
   -- what follows a file that is read is all read, or its first refused file is that of all files, one place further on

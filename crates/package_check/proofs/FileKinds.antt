@@ -1,6 +1,5 @@
 -- Copper files and drill files, and their contents.
-use Rattle.package_check.proofs.Common.{◌≡◌, ℕ, Bool, true, false, not, cond, List, [], ◌∷◌, ◌++◌, ap, sym, refl, subst, ◌∙◌, flat_map, flat_map-cons, LayerSpan, Drilled, Role, drill_files, Setting, BytesHaveContent, FileView, HasContent, HaveContents, is_copper, drilled_in, Content}
-use Rattle.std.specs.Prelude.{Option}
+use Rattle.package_check.proofs.Common.{◌≡◌, ℕ, Bool, true, false, not, cond, List, [], ◌∷◌, ◌++◌, ap, sym, refl, subst, ◌∙◌, flat_map, flat_map-cons, Drilled, Role, Said, drill_files, Setting, BytesHaveContent, FileView, HasContent, HaveContents, is_copper, drilled_in, Content}
 use Rattle.manifest.specs.declared.Role.TheVariants as role
 use Rattle.package_check.specs.declared.contents.Content.TheVariants as content
 
@@ -9,16 +8,16 @@ abbrev pub is_layer : Content → Bool
 is_layer (content.Layer image) = true
 is_layer _ = false
 
-kind_role : (q : Role) (name : List ℕ) (span : Option LayerSpan) (bytes : List ℕ) (n : Setting) (c : Content) → BytesHaveContent (record { role = q; name = name; span = span; bytes = bytes; setting = n }) c → is_copper q ≡ is_layer c
-kind_role role.Copper name span bytes n (content.Layer image) h = refl
-kind_role role.Plated name span bytes n (content.Drill plated through drill) h = refl
-kind_role role.Unplated name span bytes n (content.Drill plated through drill) h = refl
-kind_role role.Mixed name span bytes n (content.Mixed through holes) h = refl
-kind_role q name span bytes n c h = absurd h
+kind_role : (q : Role) (name : List ℕ) (said : Said) (bytes : List ℕ) (n : Setting) (c : Content) → BytesHaveContent (record { role = q; name = name; said = said; bytes = bytes; setting = n }) c → is_copper q ≡ is_layer c
+kind_role role.Copper name said bytes n (content.Layer image) h = refl
+kind_role role.Plated name said bytes n (content.Drill plated through drill) h = refl
+kind_role role.Unplated name said bytes n (content.Drill plated through drill) h = refl
+kind_role role.Mixed name said bytes n (content.Mixed through holes) h = refl
+kind_role q name said bytes n c h = absurd h
 
 -- a file that is read as a layer is copper, and no other is
 pub file_kind : (s : FileView) (c : Content) → HasContent s c → is_copper s.role ≡ is_layer c
-file_kind s c h = kind_role s.role s.name s.span s.bytes s.setting c h.1
+file_kind s c h = kind_role s.role s.name s.said s.bytes s.setting c h.1
 
 -- the role of a copper file
 pub role_copper : (q : Role) → is_copper q ≡ true → q ≡ role.Copper

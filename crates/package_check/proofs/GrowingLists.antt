@@ -1,6 +1,5 @@
 -- Lists that grow by one file or one hole at a time.
-use Rattle.package_check.proofs.Common.{◌≡◌, ◌<◌, ◌+◌, ◌++◌, ℕ, List, [], Result, length, take, get_or, refl, sym, ap, ◌∙◌, Bool, true, false, Option, flat_map, enumerate_from, append-nil, Fault, flat_listed_more, LayerSpan, Role, Content, FileSum, index_in, Setting, Reads, ReadsUnlessBadSpan, is_bad_span, unnamed_file}
-use Rattle.std.specs.Prelude.{Option}
+use Rattle.package_check.proofs.Common.{◌≡◌, ◌<◌, ◌+◌, ◌++◌, ℕ, List, [], Result, length, take, get_or, refl, sym, ap, ◌∙◌, Bool, true, false, flat_map, enumerate_from, append-nil, Fault, flat_listed_more, Role, Said, Content, FileSum, index_in, Setting, Reads, ReadsUnlessBadSpan, is_bad_span, unnamed_file}
 use Rattle.board.specs.declared.FileSum.TheVariants as sum
 
 -- what one more element gives
@@ -15,11 +14,11 @@ pub flat_map_indexed_none : {X Y : Type 0} (f : ℕ × X → List Y) (out : List
 flat_map_indexed_none f out xs i x lt is value was = sym (append-nil out) ∙ flat_map_indexed_more f out [] xs i x lt is value was
 
 -- the content or the fault of a file does not depend on its name
-pub any_name : (q : Role) (name : List ℕ) (span : Option LayerSpan) (bytes : List ℕ) (n : Setting) (answer : Result Content Fault) → Reads (unnamed_file q span n bytes) answer
-    → Reads (record { role = q; name = name; span = span; bytes = bytes; setting = n }) answer
-any_name q name span bytes n answer h = by (is_bad_span q span n.layers) h
+pub any_name : (q : Role) (name : List ℕ) (said : Said) (bytes : List ℕ) (n : Setting) (answer : Result Content Fault) → Reads (unnamed_file q said n bytes) answer
+    → Reads (record { role = q; name = name; said = said; bytes = bytes; setting = n }) answer
+any_name q name said bytes n answer h = by (is_bad_span q said.span n.layers) h
   where
-    by : (t : Bool) → ReadsUnlessBadSpan t (unnamed_file q span n bytes) answer → ReadsUnlessBadSpan t (record { role = q; name = name; span = span; bytes = bytes; setting = n }) answer
+    by : (t : Bool) → ReadsUnlessBadSpan t (unnamed_file q said n bytes) answer → ReadsUnlessBadSpan t (record { role = q; name = name; said = said; bytes = bytes; setting = n }) answer
     by true k = k
     by false k = k
 

@@ -61,7 +61,7 @@ counted (x ∷ xs) =
 
 pub sound_is_straight : HolesAreSaidOnce → SoundIsStraight
 sound_is_straight once sources rules strict layered some sound file drilled d among said inside plated =
-    let from = plated_is_drill file.role file.span said.commands said.holes drilled d said.is inside plated in
+    let from = plated_is_drill file.role file.said.span said.commands said.holes drilled d said.is inside plated in
     let is_drill : not (is_copper file.role) ≡ true = from.0 in
     let files = filter (λ (f : FileView). not (is_copper f.role)) sources in
     let place = kept (λ (f : FileView). not (is_copper f.role)) sources file among.0 among.1 among.2 is_drill in
@@ -72,7 +72,7 @@ sound_is_straight once sources rules strict layered some sound file drilled d am
     let spot : get_or sound.drills at.0 other.0 ≡ other.0 = at.2 in
     let whole : Contains (flat_map (λ (one : List Drilled). one) sound.drills) d = flat_map_at (λ (one : List Drilled). one) sound.drills other.0 d at.0 far spot listed in
     let layers_are : file.setting.layers ≡ count_by (λ (one : FileView). is_copper one.role) sources = layered file among in
-    let layer = some_layer file.span file.setting.layers (subst (λ m. 0 < m) (sym layers_are) some) said.run in
+    let layer = some_layer file.said.span file.setting.layers (subst (λ m. 0 < m) (sym layers_are) some) said.run in
     let below : layer.0 < file.setting.layers = layer.1 in
     let long : length sound.layers ≡ length (filter (λ (f : FileView). is_copper f.role) sources) = AllZip-long SaysPads (filter (λ (f : FileView). is_copper f.role) sources) sound.layers sound.pads in
     let within : layer.0 < length sound.layers = omega (arith, below, layers_are, counted sources, long) in

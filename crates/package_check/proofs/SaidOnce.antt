@@ -1,5 +1,5 @@
 -- What a file says by the grammar of its format, it says once.
-use Rattle.package_check.proofs.Common.{◌≡◌, List, map, ap, sym, subst, ◌∙◌, GridHole, Drilled, Command, Profile, Strict, Wide, WidePad, LayerSpan, CalledIsListed, Role, holes_with_platings, plain, DrillCommand, AreDrilledBy, HolesAreSaidOnce, MakePads, PadsAreSaidOnce, TextsSpellOneListIn, WidePadsAreUnique, PadsAreUnique, AreHoles, DrillsAtMostOneList, IsTextOfAtMostOne}
+use Rattle.package_check.proofs.Common.{◌≡◌, List, map, ap, sym, subst, ◌∙◌, GridHole, Drilled, Command, Profile, Strict, Wide, WidePad, LayerSpan, CalledIsListed, Role, holes_with_platings, plain, DrillCommand, AreDrilledBy, format_in, HolesAreSaidOnce, MakePads, PadsAreSaidOnce, TextsSpellOneListIn, WidePadsAreUnique, PadsAreUnique, AreHoles, DrillsAtMostOneList, IsTextOfAtMostOne}
 use Rattle.std.specs.Prelude.{Option}
 use Rattle.manifest.specs.declared.Role.TheVariants as role
 
@@ -19,7 +19,7 @@ drilled_once listed q span commands holes a b h k = h ∙ sym k
 
 pub holes_once : IsTextOfAtMostOne → DrillsAtMostOneList → CalledIsListed → HolesAreSaidOnce
 holes_once one_text one_list listed file a b s t =
-    let same : s.commands ≡ t.commands = one_text file.setting.profile file.bytes s.commands t.commands s.written t.written in
+    let same : s.commands ≡ t.commands = one_text file.setting.profile (format_in file.setting.profile file.said.format) file.bytes s.commands t.commands s.written t.written in
     let holes : s.holes ≡ t.holes = one_list t.commands s.holes t.holes (subst (λ (cs : List DrillCommand). AreHoles cs s.holes) same s.made) t.made in
-    let moved : AreDrilledBy file.role file.span t.commands s.holes a = subst (λ (cs : List DrillCommand). AreDrilledBy file.role file.span cs s.holes a) same s.is in
-    drilled_once listed file.role file.span t.commands t.holes a b (subst (λ (hs : List GridHole). AreDrilledBy file.role file.span t.commands hs a) holes moved) t.is
+    let moved : AreDrilledBy file.role file.said.span t.commands s.holes a = subst (λ (cs : List DrillCommand). AreDrilledBy file.role file.said.span cs s.holes a) same s.is in
+    drilled_once listed file.role file.said.span t.commands t.holes a b (subst (λ (hs : List GridHole). AreDrilledBy file.role file.said.span t.commands hs a) holes moved) t.is

@@ -1,5 +1,5 @@
 -- A reader of a package takes files.
-use Rattle.package_check.proofs.Common.{◌≡◌, ◌≢◌, ◌<◌, ◌≤◌, ◌+◌, ◌++◌, ◌||◌, ◌&&◌, eqb, ltb, ℕ, zero, suc, List, [], ◌∷◌, Ok, Err, Result, Option, Some, None, OnOk, Bool, true, false, not, length, map, take, get_or, slice_get, inl, inr, arith, refl, sym, ap, subst, ◌∙◌, alloc_error, option_map, flat_map, AllocError, both_ways, cases_eq, cases_order, eq-eqb, eqb-true, false≢true, le-ltb, lt-ltb, ltb-true, ne_eqb, or_cases, or_left, or_right, length-map, flat_map-cons, get_or_from_slice_get, none-some, same_Some, slice_get-map, slice_get_read, slice_get_within, LayerSpan, Fault, Fail, keeps_drawn, keeps_rows, ReadingIsUniqueIn, Keep, Role, PackageFault, Content, PackageReader, Kept, FileView, Setting, HaveContents, IsFirstRefused, Reads, is_copper, unnamed_file, AreDrawnOf, AreFileLists, BoardView, IsBoard, IsDrawnBoard, IsFlashedBoard, OfCopper, Returns, board_of, HasContours, HasMacros, HasRows, HasTaken, HasTakenAll, HoldsThose, IsKeptOf, IsPutAt, IsOutOfMemory, ReadsAt, ReadsInto, StoppedAmong, TakesFile, TakesThose, contents_in, is_kind, is_kind_at, is_kind_of, is_wanted, kept_at, next_stop, shown_board, shown_in}
+use Rattle.package_check.proofs.Common.{◌≡◌, ◌≢◌, ◌<◌, ◌≤◌, ◌+◌, ◌++◌, ◌||◌, ◌&&◌, eqb, ltb, ℕ, zero, suc, List, [], ◌∷◌, Ok, Err, Result, Option, Some, None, OnOk, Bool, true, false, not, length, map, take, get_or, slice_get, inl, inr, arith, refl, sym, ap, subst, ◌∙◌, alloc_error, option_map, flat_map, AllocError, both_ways, cases_eq, cases_order, eq-eqb, eqb-true, false≢true, le-ltb, lt-ltb, ltb-true, ne_eqb, or_cases, or_left, or_right, length-map, flat_map-cons, get_or_from_slice_get, none-some, same_Some, slice_get-map, slice_get_read, slice_get_within, Fault, Fail, keeps_drawn, keeps_rows, ReadingIsUniqueIn, Keep, Role, Said, PackageFault, Content, PackageReader, Kept, FileView, Setting, HaveContents, IsFirstRefused, Reads, is_copper, unnamed_file, AreDrawnOf, AreFileLists, BoardView, IsBoard, IsDrawnBoard, IsFlashedBoard, OfCopper, Returns, board_of, HasContours, HasMacros, HasRows, HasTaken, HasTakenAll, HoldsThose, IsKeptOf, IsPutAt, IsOutOfMemory, ReadsAt, ReadsInto, StoppedAmong, TakesFile, TakesThose, contents_in, is_kind, is_kind_at, is_kind_of, is_wanted, kept_at, next_stop, shown_board, shown_in}
 use Rattle.grid_units.specs.declared.fault.Fail.TheVariants as fails
 use Rattle.package_check.specs.declared.PackageFault.TheVariants as stop
 use Rattle.board.specs.declared.Shown.{Shown}
@@ -179,11 +179,11 @@ wanted_before (Some stop.Memory) i index lt h = absurd (false≢true h)
 wanted_before (Some (stop.File r f)) i index lt h = let below = ltb-true index r h in lt-ltb i r (omega arith)
 
 -- what is read of a file does not depend on its name
-pub read_named : (keep : Keep) (index : ℕ) (q : Role) (name : List ℕ) (span : Option LayerSpan) (bytes : List ℕ) (n : Setting) (before after : List (Option Kept)) (r : Result (Unit {0}) Fail)
-    → ReadsAt keep index (unnamed_file q span n bytes) before after r → ReadsAt keep index (record { role = q; name = name; span = span; bytes = bytes; setting = n }) before after r
-read_named keep index q name span bytes n before after (Ok u) h = (h.0, record { content = any_name q name span bytes n (Ok h.0.content) h.1.content; rows = h.1.rows; drawn = h.1.drawn }, h.2)
-read_named keep index q name span bytes n before after (Err fails.Memory) h = tt
-read_named keep index q name span bytes n before after (Err (fails.Refused f)) h = (any_name q name span bytes n (Err f) h.0, h.1)
+pub read_named : (keep : Keep) (index : ℕ) (q : Role) (name : List ℕ) (said : Said) (bytes : List ℕ) (n : Setting) (before after : List (Option Kept)) (r : Result (Unit {0}) Fail)
+    → ReadsAt keep index (unnamed_file q said n bytes) before after r → ReadsAt keep index (record { role = q; name = name; said = said; bytes = bytes; setting = n }) before after r
+read_named keep index q name said bytes n before after (Ok u) h = (h.0, record { content = any_name q name said bytes n (Ok h.0.content) h.1.content; rows = h.1.rows; drawn = h.1.drawn }, h.2)
+read_named keep index q name said bytes n before after (Err fails.Memory) h = tt
+read_named keep index q name said bytes n before after (Err (fails.Refused f)) h = (any_name q name said bytes n (Err f) h.0, h.1)
 
 -- a file that was taken and is not at this index was taken before
 taken_before : (p : ℕ → Bool) (i index : ℕ) → i ≢ index → (p i || eqb i index) ≡ true → p i ≡ true

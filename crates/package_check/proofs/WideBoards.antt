@@ -1,5 +1,5 @@
 -- What the wide profile says of the files of a board that was read in the strict one.
-use Rattle.package_check.proofs.Common.{◌≡◌, inl, inr, ◌↔◌, ◌<◌, ◌+◌, ◌++◌, ◌||◌, ◌&&◌, ℕ, suc, Bool, true, false, not, List, [], ◌∷◌, Option, Result, Ok, Err, length, map, get_or, arith, refl, ap, ap₂, sym, subst, ◌∙◌, ⊤, option_map, or_cases, AllByRecursion, cons_option, enumerate_from, filter, flat_map, list_any, length-map, flat_map-cons, LayerSpan, Fault, GridRules, Profile, Strict, Wide, DrillCommand, calls_plated, IsDrillText, without_places, LayerImage, ReadingIsUniqueIn, ReadsLayerIn, StrictLayers, Feature, wide_pad_covers, WidePad, Role, finding_of, gap_findings, is_refused_slot, layer_findings, ring_findings, is_in_span, Drilled, Finding, DrillView, LayerView, HasContours, HasLayerView, HasMacros, FileView, BytesHaveContent, HaveContents, IsFirstRefused, IsReport, IsAnswer, AnswerExists, AreFileLists, BoardView, OfCopper, holes_of_all, index_of, is_copper, layers, pads_of, report_on, sum_of, ReportView, IsUncontradicted, ReadIsUncontradicted, WideFindsNoMore, read_in, Numbered, Content, both_ways, GridPoint, FeatureKind, contour_pad, macro_pad, pad_in, strict_kind_of, strict_view, uncounted_contours, uncounted_macros, wide_features_of, Plain, Rounded, list_any-append, WideAnswersByBoard, is_called_plated, in_wide, layer_rings, wide_rings, or_is_false}
+use Rattle.package_check.proofs.Common.{◌≡◌, inl, inr, ◌↔◌, ◌<◌, ◌+◌, ◌++◌, ◌||◌, ◌&&◌, ℕ, suc, Bool, true, false, not, List, [], ◌∷◌, Result, Ok, Err, length, map, get_or, arith, refl, ap, ap₂, sym, subst, ◌∙◌, ⊤, option_map, or_cases, AllByRecursion, cons_option, enumerate_from, filter, flat_map, list_any, length-map, flat_map-cons, Fault, GridRules, Profile, Strict, Wide, DrillCommand, calls_plated, IsDrillText, without_places, LayerImage, ReadingIsUniqueIn, ReadsLayerIn, StrictLayers, Feature, wide_pad_covers, WidePad, Role, Said, finding_of, gap_findings, is_refused_slot, layer_findings, ring_findings, is_in_span, Drilled, Finding, DrillView, LayerView, HasContours, HasLayerView, HasMacros, FileView, BytesHaveContent, HaveContents, IsFirstRefused, IsReport, IsAnswer, AnswerExists, AreFileLists, BoardView, OfCopper, holes_of_all, index_of, is_copper, layers, pads_of, report_on, sum_of, ReportView, IsUncontradicted, ReadIsUncontradicted, WideFindsNoMore, read_in, said_in, Numbered, Content, both_ways, GridPoint, FeatureKind, contour_pad, macro_pad, pad_in, strict_kind_of, strict_view, uncounted_contours, uncounted_macros, wide_features_of, Plain, Rounded, list_any-append, WideAnswersByBoard, is_called_plated, in_wide, layer_rings, wide_rings, or_is_false}
 use Rattle.drill_text.specs.Profiles as drills
 use Rattle.pad_shapes.specs.Holding.{covers_hole}
 use Rattle.layer_features.specs.declared.feature.FeatureKind.TheVariants as kind
@@ -89,19 +89,19 @@ module _ (layers_too : StrictLayers) (once : ReadingIsUniqueIn) where
   Suit macros contours (content.Mixed v d) (content.Mixed w e) = ⊤
   Suit macros contours _ _ = ⊥
 
-  suit : (q : Role) (name : List ℕ) (span : Option LayerSpan) (bytes : List ℕ) (n : ℕ) (macros contours : List WidePad) (c d : Content)
-      → BytesHaveContent (record { role = q; name = name; span = span; bytes = bytes; setting = record { layers = n; profile = Strict } }) c
-      → BytesHaveContent (record { role = q; name = name; span = span; bytes = bytes; setting = record { layers = n; profile = Wide } }) d
+  suit : (q : Role) (name : List ℕ) (said : Said) (bytes : List ℕ) (n : ℕ) (macros contours : List WidePad) (c d : Content)
+      → BytesHaveContent (record { role = q; name = name; said = said; bytes = bytes; setting = record { layers = n; profile = Strict } }) c
+      → BytesHaveContent (record { role = q; name = name; said = said_in Wide said; bytes = bytes; setting = record { layers = n; profile = Wide } }) d
       → (is_copper q ≡ true → HasMacros Strict bytes macros) → (is_copper q ≡ true → HasContours Strict bytes contours) → Suit macros contours c d
-  suit role.Copper name span bytes n macros contours (content.Layer a) (content.Layer b) h k ms cs = all_of_layer bytes a b macros contours h.0 k.0 (ms refl) (cs refl)
-  suit role.Plated name span bytes n macros contours (content.Drill p v d) (content.Drill q w e) h k ms cs = tt
-  suit role.Unplated name span bytes n macros contours (content.Drill p v d) (content.Drill q w e) h k ms cs = tt
-  suit role.Mixed name span bytes n macros contours (content.Mixed v d) (content.Mixed w e) h k ms cs = tt
-  suit role.Copper name span bytes n macros contours (content.Layer a) other h k ms cs = absurd k
-  suit role.Plated name span bytes n macros contours (content.Drill p v d) other h k ms cs = absurd k
-  suit role.Unplated name span bytes n macros contours (content.Drill p v d) other h k ms cs = absurd k
-  suit role.Mixed name span bytes n macros contours (content.Mixed v d) other h k ms cs = absurd k
-  suit q name span bytes n macros contours one other h k ms cs = absurd h
+  suit role.Copper name said bytes n macros contours (content.Layer a) (content.Layer b) h k ms cs = all_of_layer bytes a b macros contours h.0 k.0 (ms refl) (cs refl)
+  suit role.Plated name said bytes n macros contours (content.Drill p v d) (content.Drill q w e) h k ms cs = tt
+  suit role.Unplated name said bytes n macros contours (content.Drill p v d) (content.Drill q w e) h k ms cs = tt
+  suit role.Mixed name said bytes n macros contours (content.Mixed v d) (content.Mixed w e) h k ms cs = tt
+  suit role.Copper name said bytes n macros contours (content.Layer a) other h k ms cs = absurd k
+  suit role.Plated name said bytes n macros contours (content.Drill p v d) other h k ms cs = absurd k
+  suit role.Unplated name said bytes n macros contours (content.Drill p v d) other h k ms cs = absurd k
+  suit role.Mixed name said bytes n macros contours (content.Mixed v d) other h k ms cs = absurd k
+  suit q name said bytes n macros contours one other h k ms cs = absurd h
 
   module _ (macros contours : ℕ → List WidePad) where
     -- so it is of each file, by its index
@@ -126,7 +126,7 @@ module _ (layers_too : StrictLayers) (once : ReadingIsUniqueIn) where
     suits k [] [] ds h w ms ks = absurd w
     suits k (s ∷ ss) (c ∷ cs) [] h w ms ks = absurd w
     suits k (s ∷ ss) (c ∷ cs) (d ∷ ds) h w ms ks = (
-      suit s.role s.name s.span s.bytes s.setting.layers (macros k) (contours k) c d h.0.1 w.0.1 (have_here HasMacros macros k s ss ms) (have_here HasContours contours k s ss ks),
+      suit s.role s.name s.said s.bytes s.setting.layers (macros k) (contours k) c d h.0.1 w.0.1 (have_here HasMacros macros k s ss ms) (have_here HasContours contours k s ss ks),
       suits (k + 1) ss cs ds h.1 w.1 (have_later HasMacros macros k s ss ms) (have_later HasContours contours k s ss ks),
     )
     suits k ss cs ds h w ms ks = absurd h
@@ -183,31 +183,31 @@ module _ (texts : (text : List ℕ) (commands : List DrillCommand) → (drills.R
   same_text : (text : List ℕ) (a b : List DrillCommand) → IsDrillText text a → IsDrillText text b → a ≡ b
   same_text text a b h k = ok_same (reads_once text (Ok a) (Ok b) ((texts text a).1 h) ((texts text b).1 k))
 
-  silent : (q : Role) (name : List ℕ) (span : Option LayerSpan) (bytes : List ℕ) (n : ℕ) (c : Content) → BytesHaveContent (record { role = q; name = name; span = span; bytes = bytes; setting = record { layers = n; profile = Strict } }) c
+  silent : (q : Role) (name : List ℕ) (said : Said) (bytes : List ℕ) (n : ℕ) (c : Content) → BytesHaveContent (record { role = q; name = name; said = said; bytes = bytes; setting = record { layers = n; profile = Strict } }) c
       → is_called_plated (sum_of c) ≡ false → q ≡ role.Unplated → (commands : List DrillCommand) → IsDrillText bytes commands → list_any calls_plated commands ≡ false
-  silent role.Unplated name span bytes n (content.Drill p v d) h none is commands text =
+  silent role.Unplated name said bytes n (content.Drill p v d) h none is commands text =
       let said : d.contradicted ≡ list_any calls_plated h.0.0 = ap (λ (view : DrillView). view.contradicted) h.0.2 in
       ap (list_any calls_plated) (same_text bytes commands h.0.0 text h.0.1) ∙ (sym said ∙ (sym (ap (λ (b : Bool). not b && d.contradicted) h.1) ∙ none))
-  silent role.Unplated name span bytes n c h none is commands text = absurd h
-  silent q name span bytes n c h none is commands text = absurd cc
+  silent role.Unplated name said bytes n c h none is commands text = absurd h
+  silent q name said bytes n c h none is commands text = absurd cc
 
   all_silent : (ss : List FileView) (cs : List Content) → HaveContents (map (read_in Strict) ss) cs → list_any is_called_plated (map sum_of cs) ≡ false → AllByRecursion IsUncontradicted ss
   all_silent [] cs h none = tt
   all_silent (s ∷ ss) [] h none = absurd h
   all_silent (s ∷ ss) (c ∷ cs) h none =
       let two = or_is_false (is_called_plated (sum_of c)) (list_any is_called_plated (map sum_of cs)) none in
-      (silent s.role s.name s.span s.bytes s.setting.layers c h.0.1 two.0, all_silent ss cs h.1 two.1)
+      (silent s.role s.name s.said s.bytes s.setting.layers c h.0.1 two.0, all_silent ss cs h.1 two.1)
 
   -- a file that contradicts its role, and whose holes no comment calls plated
-  not_silent : (q : Role) (name : List ℕ) (span : Option LayerSpan) (bytes : List ℕ) (n : ℕ) (c : Content) → BytesHaveContent (record { role = q; name = name; span = span; bytes = bytes; setting = record { layers = n; profile = Strict } }) c
+  not_silent : (q : Role) (name : List ℕ) (said : Said) (bytes : List ℕ) (n : ℕ) (c : Content) → BytesHaveContent (record { role = q; name = name; said = said; bytes = bytes; setting = record { layers = n; profile = Strict } }) c
       → is_called_plated (sum_of c) ≡ true → (q ≡ role.Unplated → (commands : List DrillCommand) → IsDrillText bytes commands → list_any calls_plated commands ≡ false) → ⊥
-  not_silent role.Unplated name span bytes n (content.Drill p v d) h some free =
+  not_silent role.Unplated name said bytes n (content.Drill p v d) h some free =
       let said : d.contradicted ≡ list_any calls_plated h.0.0 = ap (λ (view : DrillView). view.contradicted) h.0.2 in
       both_ways d.contradicted (said ∙ free refl h.0.0 h.0.1) (sym (ap (λ (b : Bool). not b && d.contradicted) h.1) ∙ some)
-  not_silent role.Plated name span bytes n (content.Drill p v d) h some free = both_ways false refl (sym (ap (λ (b : Bool). not b && d.contradicted) h.1) ∙ some)
-  not_silent role.Copper name span bytes n (content.Layer a) h some free = both_ways false refl some
-  not_silent role.Mixed name span bytes n (content.Mixed v d) h some free = both_ways false refl some
-  not_silent q name span bytes n c h some free = absurd h
+  not_silent role.Plated name said bytes n (content.Drill p v d) h some free = both_ways false refl (sym (ap (λ (b : Bool). not b && d.contradicted) h.1) ∙ some)
+  not_silent role.Copper name said bytes n (content.Layer a) h some free = both_ways false refl some
+  not_silent role.Mixed name said bytes n (content.Mixed v d) h some free = both_ways false refl some
+  not_silent q name said bytes n c h some free = absurd h
 
   -- so the wide profile does not read them all
   not_read : ReadIsUncontradicted → (ss : List FileView) (cs ds : List Content) → HaveContents (map (read_in Strict) ss) cs → HaveContents (map (read_in Wide) ss) ds → list_any is_called_plated (map sum_of cs) ≡ true → ⊥
@@ -216,7 +216,7 @@ module _ (texts : (text : List ℕ) (commands : List DrillCommand) → (drills.R
   not_read free (s ∷ ss) [] ds h w some = absurd h
   not_read free (s ∷ ss) (c ∷ cs) [] h w some = absurd w
   not_read free (s ∷ ss) (c ∷ cs) (d ∷ ds) h w some = elim (or_cases (is_called_plated (sum_of c)) (list_any is_called_plated (map sum_of cs)) some) [
-    | inl here ↦ not_silent s.role s.name s.span s.bytes s.setting.layers c h.0.1 here (free s d w.0)
+    | inl here ↦ not_silent s.role s.name s.said s.bytes s.setting.layers c h.0.1 here (free s d w.0)
     | inr there ↦ not_read free ss cs ds h.1 w.1 there
   ]
 

@@ -1,5 +1,5 @@
 -- What files say in the strict profile, they say in the wide one, with further pads.
-use Rattle.package_check.proofs.Common.{◌≡◌, ◌⊎◌, inl, inr, ◌↔◌, ◌<◌, ◌+◌, ◌++◌, ℕ, zero, suc, Bool, true, false, List, [], ◌∷◌, Option, Ok, length, map, get_or, arith, refl, ap, ap₂, sym, subst, ◌∙◌, ⊤, option_map, AllByRecursion, Contains, cons_option, enumerate_from, filter, flat_map, list_any, flat_map-cons, Contains-append_cases, Contains-append_left, LayerSpan, Strict, Wide, DrillCommand, calls_plated, ReadsBy, ReadsIn, mixed_in, unplated_in, IsDrillText, without_places, StrictLayers, Feature, wide_pad_covers, WidePad, Role, gap_findings, ring_findings, Finding, DrillView, LayerView, HasLayerView, ReadsDrill, layer_view, FileView, BytesHaveContent, HaveContents, holes_of_all, holes_of, index_of, layers, numbered_holes, pads_of, report_on, FindsNoMore, IsUncontradicted, WideFindsNoMore, is_gap, read_in, Numbered, Content, both_ways, GridPoint, FeatureKind, pad_in, strict_kind_of, strict_view, wide_features_of, Plain, Rounded, Ring, Oblique}
+use Rattle.package_check.proofs.Common.{◌≡◌, ◌⊎◌, inl, inr, ◌↔◌, ◌<◌, ◌+◌, ◌++◌, ℕ, zero, suc, Bool, true, false, List, [], ◌∷◌, None, Ok, length, map, get_or, arith, refl, ap, ap₂, sym, subst, ◌∙◌, ⊤, option_map, AllByRecursion, Contains, cons_option, enumerate_from, filter, flat_map, list_any, flat_map-cons, Contains-append_cases, Contains-append_left, Strict, Wide, DrillCommand, calls_plated, ReadsBy, ReadsIn, mixed_in, unplated_in, IsDrillText, without_places, StrictLayers, Feature, wide_pad_covers, WidePad, Role, Said, gap_findings, ring_findings, Finding, DrillView, LayerView, HasLayerView, ReadsDrill, layer_view, FileView, BytesHaveContent, HaveContents, holes_of_all, holes_of, index_of, layers, numbered_holes, pads_of, report_on, FindsNoMore, IsUncontradicted, WideFindsNoMore, is_gap, read_in, said_in, Numbered, Content, both_ways, GridPoint, FeatureKind, pad_in, strict_kind_of, strict_view, wide_features_of, Plain, Rounded, Ring, Oblique}
 use Rattle.drill_text.specs.Profiles as drills
 use Rattle.layer_features.specs.declared.feature.FeatureKind.TheVariants as kind
 use Rattle.layer_features.specs.Features.{pads_of as feature_pads}
@@ -55,26 +55,26 @@ module _ (layers_too : StrictLayers) (texts : (text : List ℕ) (commands : List
         λ w among. strict_among (wide_features_of commands) w (subst (λ (ps : List WidePad). Contains ps w) same among),
       )
 
-  wider_drill : (bytes : List ℕ) (drill : DrillView) → ReadsDrill Strict true bytes (Ok drill) → ReadsDrill Wide true bytes (Ok drill)
+  wider_drill : (bytes : List ℕ) (drill : DrillView) → ReadsDrill Strict None true bytes (Ok drill) → ReadsDrill Wide None true bytes (Ok drill)
   wider_drill bytes drill h = (h.0, drills_too bytes h.0 ((texts bytes h.0).1 h.1), h.2)
 
   -- and a file that its role calls unplated, where it does not contradict that
-  wider_unplated : (bytes : List ℕ) (drill : DrillView) → ((commands : List DrillCommand) → IsDrillText bytes commands → list_any calls_plated commands ≡ false) → ReadsDrill Strict false bytes (Ok drill) → ReadsDrill Wide false bytes (Ok drill)
+  wider_unplated : (bytes : List ℕ) (drill : DrillView) → ((commands : List DrillCommand) → IsDrillText bytes commands → list_any calls_plated commands ≡ false) → ReadsDrill Strict None false bytes (Ok drill) → ReadsDrill Wide None false bytes (Ok drill)
   wider_unplated bytes drill silent h = (h.0, unplated_too bytes h.0 ((texts bytes h.0).1 h.1) (silent h.0 h.1), h.2)
 
-  wider_file : (q : Role) (name : List ℕ) (span : Option LayerSpan) (bytes : List ℕ) (n : ℕ) (c : Content) → (q ≡ role.Unplated → (commands : List DrillCommand) → IsDrillText bytes commands → list_any calls_plated commands ≡ false)
-      → BytesHaveContent (record { role = q; name = name; span = span; bytes = bytes; setting = record { layers = n; profile = Strict } }) c
-      → (d : Content) × BytesHaveContent (record { role = q; name = name; span = span; bytes = bytes; setting = record { layers = n; profile = Wide } }) d × IsWider c d
-  wider_file role.Copper name span bytes n (content.Layer a) silent h = let more = wider_layer bytes a h.0 in (content.Layer more.0, (more.1, more.2 ∙ h.1), more.3)
-  wider_file role.Mixed name span bytes n (content.Mixed v d) silent h = (content.Mixed v d, ((h.0.0, mixed_too bytes h.0.0 h.0.1, h.0.2), h.1), refl)
-  wider_file role.Plated name span bytes n (content.Drill p v d) silent h = (content.Drill p v d, (wider_drill bytes d h.0, h.1, h.2), refl)
-  wider_file role.Unplated name span bytes n (content.Drill p v d) silent h = (content.Drill p v d, (wider_unplated bytes d (silent refl) h.0, h.1, h.2), refl)
-  wider_file q name span bytes n c silent h = absurd h
+  wider_file : (q : Role) (name : List ℕ) (said : Said) (bytes : List ℕ) (n : ℕ) (c : Content) → (q ≡ role.Unplated → (commands : List DrillCommand) → IsDrillText bytes commands → list_any calls_plated commands ≡ false)
+      → BytesHaveContent (record { role = q; name = name; said = said; bytes = bytes; setting = record { layers = n; profile = Strict } }) c
+      → (d : Content) × BytesHaveContent (record { role = q; name = name; said = said_in Wide said; bytes = bytes; setting = record { layers = n; profile = Wide } }) d × IsWider c d
+  wider_file role.Copper name said bytes n (content.Layer a) silent h = let more = wider_layer bytes a h.0 in (content.Layer more.0, (more.1, more.2 ∙ h.1), more.3)
+  wider_file role.Mixed name said bytes n (content.Mixed v d) silent h = (content.Mixed v d, ((h.0.0, mixed_too bytes h.0.0 h.0.1, h.0.2), h.1), refl)
+  wider_file role.Plated name said bytes n (content.Drill p v d) silent h = (content.Drill p v d, (wider_drill bytes d h.0, h.1, h.2), refl)
+  wider_file role.Unplated name said bytes n (content.Drill p v d) silent h = (content.Drill p v d, (wider_unplated bytes d (silent refl) h.0, h.1, h.2), refl)
+  wider_file q name said bytes n c silent h = absurd h
 
   wider_files : (sources : List FileView) (cs : List Content) → HaveContents (map (read_in Strict) sources) cs → AllByRecursion IsUncontradicted sources → (ds : List Content) × HaveContents (map (read_in Wide) sources) ds × AreWider cs ds
   wider_files [] [] h silent = ([], tt, tt)
   wider_files (s ∷ ss) (c ∷ cs) h silent =
-      let one = wider_file s.role s.name s.span s.bytes s.setting.layers c silent.0 h.0.1 in
+      let one = wider_file s.role s.name s.said s.bytes s.setting.layers c silent.0 h.0.1 in
       let rest = wider_files ss cs h.1 silent.1 in
       (one.0 ∷ rest.0, ((h.0.0, one.1), rest.1), (one.2, rest.2))
   wider_files ss cs h silent = absurd h

@@ -1,5 +1,5 @@
 -- What is sound by what is read of it is sound by what is written.
-use Rattle.package_check.proofs.Common.{◌≡◌, ◌↔◌, ◌⊎◌, inl, inr, ◌<◌, ℕ, zero, suc, Bool, true, false, not, ◌||◌, ◌&&◌, leb, List, [], ◌∷◌, ◌++◌, map, length, get_or, refl, sym, ap, subst, ◌∙◌, arith, AllZip, Contains, filter, flat_map, leb-true, flat_map-cons, Contains-append_cases, GridHole, LayerSpan, is_in_span, Profile, Strict, Wide, WidePad, Drilled, AreAllApart, Command, without_places, KindsReadTheSame, ListedIsCalled, plated_of, ReadsIn, mixed_in, Fault, DrillCommand, Role, DrillView, LayerView, plain, HasLayerView, ReadsDrill, drill_kind, is_copper_function, Content, FileView, Setting, HasContent, HasDrillContent, HasMixedContent, HaveContents, is_bad_span, is_copper, layers, pads_of, AreDrilledBy, IsRun, MakePads, SaysHoles, SaysPads, IsPlatedThrough, SoundAsReadIsSound, drilled_in, SpelledTextsAreWrittenIn, LegalWidePads, LayerPads, ListedHolesAreDrilled, ReadIsWritten, SpelledIsWritten, WideHolesAreDrilled, AreHoles}
+use Rattle.package_check.proofs.Common.{◌≡◌, ◌↔◌, ◌⊎◌, inl, inr, ◌<◌, ℕ, zero, suc, Bool, true, false, not, ◌||◌, ◌&&◌, leb, List, [], ◌∷◌, ◌++◌, map, length, get_or, refl, sym, ap, subst, ◌∙◌, arith, AllZip, Contains, filter, flat_map, leb-true, flat_map-cons, Contains-append_cases, GridHole, LayerSpan, is_in_span, Profile, Strict, Wide, WidePad, Drilled, AreAllApart, Command, without_places, KindsReadTheSame, ListedIsCalled, plated_of, ReadsBy, ReadsIn, by_role, Fault, CoordinateFormat, DrillCommand, Role, Said, DrillView, LayerView, plain, HasLayerView, ReadsDrill, drill_kind, format_in, mixed_kind, is_copper_function, Content, FileView, Setting, HasContent, HasDrillContent, HasMixedContent, HaveContents, is_bad_span, is_copper, layers, pads_of, AreDrilledBy, IsRun, MakePads, SaysHoles, SaysPads, IsPlatedThrough, SoundAsReadIsSound, drilled_in, SpelledTextsAreWrittenIn, LegalWidePads, LayerPads, ListedHolesAreDrilled, ReadIsWritten, SpelledIsWritten, WideHolesAreDrilled, AreHoles}
 use Rattle.std.specs.Prelude.{Option, None, Some, Result, Ok}
 use Rattle.grid_units.specs.Lists.{last_set}
 use Rattle.gerber_text.specs.Grammar.{IsTextIn}
@@ -102,22 +102,22 @@ module _ (texts : SpelledTextsAreWrittenIn) (layer_pads : LayerPads) (wide_pads 
         sym (ap (λ v. v.is_copper) h.2),
       )
 
-  says_pads : (s : FileView) (image : LayerView) → HasLayerView s.setting.profile s.bytes image → image.is_copper ≡ true → s.span ≡ None → SaysPads s image.pads
+  says_pads : (s : FileView) (image : LayerView) → HasLayerView s.setting.profile s.bytes image → image.is_copper ≡ true → s.said.span ≡ None → SaysPads s image.pads
   says_pads s image h copper none =
       let made = made_by s.setting.profile s.bytes image h in
       record { commands = made.0; written = made.1; made = made.2; copper = made.3 ∙ copper; spanless = none }
 
-  drilled_by : (profile : Profile) (plated : Bool) (bytes : List ℕ) (drill : DrillView) → ReadsDrill profile plated bytes (Ok drill) → (commands : List DrillCommand) × IsText profile bytes commands × AreHoles commands drill.holes
-  drilled_by Strict plated bytes drill h = (h.0, ((lines bytes h.0).0 h.1.spells).1, subst (λ (d : DrillView). AreHoles h.0 d.holes) (sym h.2) (listed bytes h.0 h.1))
-  drilled_by Wide plated bytes drill h =
-      let written = wide_lines bytes h.0 ((same (drill_kind Wide plated) bytes h.0).0 h.1).0 in
-      (h.0, written.1, subst (λ (d : DrillView). AreHoles h.0 d.holes) (sym h.2) (wide_listed bytes h.0 written.1 written.2))
+  drilled_by : (profile : Profile) (format : Option CoordinateFormat) (plated : Bool) (bytes : List ℕ) (drill : DrillView) → ReadsDrill profile format plated bytes (Ok drill) → (commands : List DrillCommand) × IsText profile (format_in profile format) bytes commands × AreHoles commands drill.holes
+  drilled_by Strict format plated bytes drill h = (h.0, ((lines bytes h.0).0 h.1.spells).1, subst (λ (d : DrillView). AreHoles h.0 d.holes) (sym h.2) (listed bytes h.0 h.1))
+  drilled_by Wide format plated bytes drill h =
+      let written = wide_lines format bytes h.0 ((same (drill_kind Wide format plated) bytes h.0).0 h.1).0 in
+      (h.0, written.1, subst (λ (d : DrillView). AreHoles h.0 d.holes) (sym h.2) (wide_listed format bytes h.0 written.1 written.2))
 
-  says_holes : (s : FileView) (plated has : Bool) (through : Option LayerSpan) (drill : DrillView) → HasDrillContent s.setting.profile plated s.span s.bytes (content.Drill has through drill)
-      → ((commands : List DrillCommand) (drilled : List Drilled) → drilled ≡ map (λ (hole : GridHole). let d : Drilled = record { hole = hole; plated = plated; span = s.span } in d) drill.holes → AreDrilledBy s.role s.span commands drill.holes drilled)
-      → IsRun s.setting.layers s.span → SaysHoles s (drilled_in (content.Drill has through drill))
+  says_holes : (s : FileView) (plated has : Bool) (through : Option LayerSpan) (drill : DrillView) → HasDrillContent s.setting.profile plated s.said s.bytes (content.Drill has through drill)
+      → ((commands : List DrillCommand) (drilled : List Drilled) → drilled ≡ map (λ (hole : GridHole). let d : Drilled = record { hole = hole; plated = plated; span = s.said.span } in d) drill.holes → AreDrilledBy s.role s.said.span commands drill.holes drilled)
+      → IsRun s.setting.layers s.said.span → SaysHoles s (drilled_in (content.Drill has through drill))
   says_holes s plated has through drill h named run =
-      let drilled = drilled_by s.setting.profile plated s.bytes drill h.0 in
+      let drilled = drilled_by s.setting.profile s.said.format plated s.bytes drill h.0 in
       record {
         commands = drilled.0;
         written = drilled.1;
@@ -128,46 +128,46 @@ module _ (texts : SpelledTextsAreWrittenIn) (layer_pads : LayerPads) (wide_pads 
       }
 
   -- the commands of a mixed file are those of its text, and drill its holes
-  mixed_by : (profile : Profile) (bytes : List ℕ) (commands : List DrillCommand) → ReadsIn profile bytes (Ok commands) → IsText profile bytes commands × AreHoles commands (holes_of commands)
-  mixed_by Strict bytes commands h = let d = (drill_texts bytes commands).0 ((strictly bytes (Ok commands)).0 h) in (((lines bytes commands).0 d.spells).1, listed bytes commands d)
-  mixed_by Wide bytes commands h = let written = wide_lines bytes commands h in (written.1, wide_listed bytes commands written.1 written.2)
+  mixed_by : (profile : Profile) (format : Option CoordinateFormat) (bytes : List ℕ) (commands : List DrillCommand) → ReadsBy (by_role profile (format_in profile format)) bytes (Ok commands) → IsText profile (format_in profile format) bytes commands × AreHoles commands (holes_of commands)
+  mixed_by Strict format bytes commands h = let d = (drill_texts bytes commands).0 ((strictly bytes (Ok commands)).0 h) in (((lines bytes commands).0 d.spells).1, listed bytes commands d)
+  mixed_by Wide format bytes commands h = let written = wide_lines format bytes commands h in (written.1, wide_listed format bytes commands written.1 written.2)
 
-  says_mixed : (name : List ℕ) (span : Option LayerSpan) (bytes : List ℕ) (n : Setting) (through : Option LayerSpan) (holes : List Drilled) → HasMixedContent n.profile span bytes (content.Mixed through holes) → IsRun n.layers span
-      → SaysHoles (record { role = role.Mixed; name = name; span = span; bytes = bytes; setting = n }) holes
-  says_mixed name span bytes n through holes h run =
+  says_mixed : (name : List ℕ) (said : Said) (bytes : List ℕ) (n : Setting) (through : Option LayerSpan) (holes : List Drilled) → HasMixedContent n.profile said bytes (content.Mixed through holes) → IsRun n.layers said.span
+      → SaysHoles (record { role = role.Mixed; name = name; said = said; bytes = bytes; setting = n }) holes
+  says_mixed name said bytes n through holes h run =
       let commands = h.0.0 in
-      let read = (same (mixed_in n.profile) bytes commands).0 h.0.1 in
-      let said = mixed_by n.profile bytes commands read.0 in
+      let read = (same (mixed_kind n.profile said.format) bytes commands).0 h.0.1 in
+      let text = mixed_by n.profile said.format bytes commands read.0 in
       record {
         commands = commands;
-        written = said.0;
+        written = text.0;
         holes = holes_of commands;
-        made = said.1;
+        made = text.1;
         run = run;
         is = (plated_of commands, called commands read.1, h.0.2);
       }
 
   -- what one more file says is among what all say
-  one_more_layer : (q : Role) (name : List ℕ) (span : Option LayerSpan) (bytes : List ℕ) (n : Setting) (c : Content) (ss : List FileView) (rest : List (List WidePad))
-      → HasContent (record { role = q; name = name; span = span; bytes = bytes; setting = n }) c → AllZip SaysPads (filter (λ s. is_copper s.role) ss) rest
-      → AllZip SaysPads (filter (λ s. is_copper s.role) (record { role = q; name = name; span = span; bytes = bytes; setting = n } ∷ ss)) (pads_of c ++ rest)
-  one_more_layer role.Copper name span bytes n (content.Layer image) ss rest h all =
-      (says_pads (record { role = role.Copper; name = name; span = span; bytes = bytes; setting = n }) image h.1.0 h.1.1 (no_span span n.layers h.0), all)
-  one_more_layer role.Plated name span bytes n (content.Drill plated through drill) ss rest h all = all
-  one_more_layer role.Unplated name span bytes n (content.Drill plated through drill) ss rest h all = all
-  one_more_layer role.Mixed name span bytes n (content.Mixed through holes) ss rest h all = all
-  one_more_layer q name span bytes n c ss rest h all = absurd h.1
+  one_more_layer : (q : Role) (name : List ℕ) (said : Said) (bytes : List ℕ) (n : Setting) (c : Content) (ss : List FileView) (rest : List (List WidePad))
+      → HasContent (record { role = q; name = name; said = said; bytes = bytes; setting = n }) c → AllZip SaysPads (filter (λ s. is_copper s.role) ss) rest
+      → AllZip SaysPads (filter (λ s. is_copper s.role) (record { role = q; name = name; said = said; bytes = bytes; setting = n } ∷ ss)) (pads_of c ++ rest)
+  one_more_layer role.Copper name said bytes n (content.Layer image) ss rest h all =
+      (says_pads (record { role = role.Copper; name = name; said = said; bytes = bytes; setting = n }) image h.1.0 h.1.1 (no_span said.span n.layers h.0), all)
+  one_more_layer role.Plated name said bytes n (content.Drill plated through drill) ss rest h all = all
+  one_more_layer role.Unplated name said bytes n (content.Drill plated through drill) ss rest h all = all
+  one_more_layer role.Mixed name said bytes n (content.Mixed through holes) ss rest h all = all
+  one_more_layer q name said bytes n c ss rest h all = absurd h.1
 
-  one_more_drill : (q : Role) (name : List ℕ) (span : Option LayerSpan) (bytes : List ℕ) (n : Setting) (c : Content) (ss : List FileView) (cs : List Content)
-      → HasContent (record { role = q; name = name; span = span; bytes = bytes; setting = n }) c → AllZip SaysHoles (filter (λ s. not (is_copper s.role)) ss) (holes_by_file cs)
-      → AllZip SaysHoles (filter (λ s. not (is_copper s.role)) (record { role = q; name = name; span = span; bytes = bytes; setting = n } ∷ ss)) (holes_by_file (c ∷ cs))
-  one_more_drill role.Copper name span bytes n (content.Layer image) ss cs h all = all
-  one_more_drill role.Plated name span bytes n (content.Drill plated through drill) ss cs h all =
-      (says_holes (record { role = role.Plated; name = name; span = span; bytes = bytes; setting = n }) true plated through drill h.1 (λ commands drilled is. is) (good_run role.Plated span n.layers h.0), all)
-  one_more_drill role.Unplated name span bytes n (content.Drill plated through drill) ss cs h all =
-      (says_holes (record { role = role.Unplated; name = name; span = span; bytes = bytes; setting = n }) false plated through drill h.1 (λ commands drilled is. is) (good_run role.Unplated span n.layers h.0), all)
-  one_more_drill role.Mixed name span bytes n (content.Mixed through holes) ss cs h all = (says_mixed name span bytes n through holes h.1 (good_run role.Mixed span n.layers h.0), all)
-  one_more_drill q name span bytes n c ss cs h all = absurd h.1
+  one_more_drill : (q : Role) (name : List ℕ) (said : Said) (bytes : List ℕ) (n : Setting) (c : Content) (ss : List FileView) (cs : List Content)
+      → HasContent (record { role = q; name = name; said = said; bytes = bytes; setting = n }) c → AllZip SaysHoles (filter (λ s. not (is_copper s.role)) ss) (holes_by_file cs)
+      → AllZip SaysHoles (filter (λ s. not (is_copper s.role)) (record { role = q; name = name; said = said; bytes = bytes; setting = n } ∷ ss)) (holes_by_file (c ∷ cs))
+  one_more_drill role.Copper name said bytes n (content.Layer image) ss cs h all = all
+  one_more_drill role.Plated name said bytes n (content.Drill plated through drill) ss cs h all =
+      (says_holes (record { role = role.Plated; name = name; said = said; bytes = bytes; setting = n }) true plated through drill h.1 (λ commands drilled is. is) (good_run role.Plated said.span n.layers h.0), all)
+  one_more_drill role.Unplated name said bytes n (content.Drill plated through drill) ss cs h all =
+      (says_holes (record { role = role.Unplated; name = name; said = said; bytes = bytes; setting = n }) false plated through drill h.1 (λ commands drilled is. is) (good_run role.Unplated said.span n.layers h.0), all)
+  one_more_drill role.Mixed name said bytes n (content.Mixed through holes) ss cs h all = (says_mixed name said bytes n through holes h.1 (good_run role.Mixed said.span n.layers h.0), all)
+  one_more_drill q name said bytes n c ss cs h all = absurd h.1
 
   -- ---- all files
 
@@ -175,12 +175,12 @@ module _ (texts : SpelledTextsAreWrittenIn) (layer_pads : LayerPads) (wide_pads 
   all_layers [] [] h = tt
   all_layers (s ∷ ss) (c ∷ cs) h =
       subst (λ (ls : List (List WidePad)). AllZip SaysPads (filter (λ (f : FileView). is_copper f.role) (s ∷ ss)) ls) (sym (flat_map-cons pads_of c cs))
-      (one_more_layer s.role s.name s.span s.bytes s.setting c ss (layers cs) h.0 (all_layers ss cs h.1))
+      (one_more_layer s.role s.name s.said s.bytes s.setting c ss (layers cs) h.0 (all_layers ss cs h.1))
   all_layers ss cs h = absurd h
 
   all_drills : (ss : List FileView) (cs : List Content) → HaveContents ss cs → AllZip SaysHoles (filter (λ s. not (is_copper s.role)) ss) (holes_by_file cs)
   all_drills [] [] h = tt
-  all_drills (s ∷ ss) (c ∷ cs) h = one_more_drill s.role s.name s.span s.bytes s.setting c ss cs h.0 (all_drills ss cs h.1)
+  all_drills (s ∷ ss) (c ∷ cs) h = one_more_drill s.role s.name s.said s.bytes s.setting c ss cs h.0 (all_drills ss cs h.1)
   all_drills ss cs h = absurd h
 
   pub sound_as_read_is_sound : SoundAsReadIsSound

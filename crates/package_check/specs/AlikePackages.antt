@@ -18,7 +18,8 @@ AllReadAlike _ _ = ⊥
 
 -- packages whose files say the same have the same answer
 abbrev pub SameAnswers : Type 0
-SameAnswers = (xs ys : List FileView) (rules : GridRules) (answer : Result ReportView (ℕ × Fault)) → AllReadAlike xs ys → IsAnswer xs rules answer ↔ IsAnswer ys rules answer
+SameAnswers = (xs ys : List FileView) (rules : GridRules) (answer : Result ReportView (ℕ × Fault)) → AllReadAlike xs ys
+    → IsAnswer xs rules answer ↔ IsAnswer ys rules answer
 
 -- a file has at most one reading: one content or one fault, and not both
 abbrev pub ReadingIsUnique : Type 0
@@ -34,4 +35,5 @@ AnswerExists = (sources : List FileView) (rules : GridRules) → (answer : Resul
 
 -- a package has at most one answer
 abbrev pub AnswerIsUnique : Type 0
-AnswerIsUnique = (sources : List FileView) (rules : GridRules) (a b : Result ReportView (ℕ × Fault)) → IsAnswer sources rules a → IsAnswer sources rules b → a ≡ b
+AnswerIsUnique = (sources : List FileView) (rules : GridRules) (a b : Result ReportView (ℕ × Fault)) → IsAnswer sources rules a
+    → IsAnswer sources rules b → a ≡ b

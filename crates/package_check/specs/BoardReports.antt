@@ -59,7 +59,8 @@ pub record AgreesWithCheck (sources : List FileView) (required : GridRules) (out
 
 -- the report on any package agrees with its check
 abbrev pub ReportAgreesWithCheck : Type 0
-ReportAgreesWithCheck = (sources : List FileView) (required : GridRules) (output : BoardReport) → IsBoardReportOf sources required output → AgreesWithCheck sources required output
+ReportAgreesWithCheck = (sources : List FileView) (required : GridRules) (output : BoardReport) → IsBoardReportOf sources required output
+    → AgreesWithCheck sources required output
 
 -- how many findings a report has
 abbrev pub finding_count : BoardReport → ℕ

@@ -61,7 +61,8 @@ pub record IsFlashedBoard (sources : List FileView) (board : BoardView) : Type 0
 
 -- a copper file draws the first parts of what the layer draws that its text reads as; of a drill file nothing is said (docs/FORMATS.md, Pictures)
 abbrev pub AreDrawnOf : FileView → List Drawn → Type 0
-AreDrawnOf source drawn = is_copper source.role ≡ true → (image : LayerImage) → ReadsLayerIn source.setting.profile source.bytes (Ok image) → drawn ≡ drawn_in source.setting.profile (without_places image.commands)
+AreDrawnOf source drawn = is_copper source.role ≡ true → (image : LayerImage) → ReadsLayerIn source.setting.profile source.bytes (Ok image)
+    → drawn ≡ drawn_in source.setting.profile (without_places image.commands)
 
 -- the board of a package whose files are all read, with the rows of each file and what it draws
 pub record IsDrawnBoard (sources : List FileView) (board : BoardView) : Type 0 where

@@ -40,7 +40,8 @@ HasJudgedAll check sources rules = HasJudged check sources rules (λ i. true)
 
 -- between two states a check has taken the files of a package at the indexes that pass a test
 abbrev pub JudgesThose : CheckView → CheckView → List FileView → (ℕ → Bool) → Type 0
-JudgesThose before after sources test = (rules : GridRules) (taken : ℕ → Bool) → HasJudged before sources rules taken → HasJudged after sources rules (λ i. taken i || test i)
+JudgesThose before after sources test = (rules : GridRules) (taken : ℕ → Bool) → HasJudged before sources rules taken
+    → HasJudged after sources rules (λ i. taken i || test i)
 
 -- between two states a check has taken this copper file, of whatever package that has it at this index, where its layer has this number
 abbrev pub TakesCopper : CheckView → CheckView → ℕ → ℕ → FileView → Type 0

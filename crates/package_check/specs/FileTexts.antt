@@ -9,14 +9,16 @@ use Rattle.grid_units.specs.declared.profile.Profile.TheVariants.{Strict, Wide}
 use Rattle.gerber_commands.specs.Negative.{first_field}
 use Rattle.gerber_text.specs.Writing.{without_places}
 use Rattle.drill_text.specs.Holes.{holes_of}
+use Rattle.drill_lines.specs.declared.command.CoordinateFormat.{CoordinateFormat}
 use Rattle.drill_lines.specs.declared.command.DrillCommand.{DrillCommand}
 use Rattle.drill_text.specs.Plating.{contradicts, plated_of}
-use Rattle.drill_text.specs.Profiles.{Kind, ReadsAsBy, mixed_in}
+use Rattle.drill_text.specs.Profiles.{Kind, ReadsAsBy}
 use Rattle.drill_text.specs.Texts.{ReadsAs}
 use Rattle.drill_text.specs.declared.platings.PlatingKind.{PlatingKind}
 use Rattle.drill_text.specs.declared.platings.PlatingKind.TheVariants as plating
 use Rattle.layer_image.specs.Layers as layers
 use Rattle.layer_image.specs.Layers.{LayerImage}
+use Rattle.manifest.specs.declared.Said.{Said}
 use Rattle.pad_shapes.specs.declared.drawn.Drawn.{Drawn}
 use Rattle.layer_features.specs.DrawnCopper.{drawn_in}
 use Rattle.pad_shapes.specs.declared.row.FeatureRow.{FeatureRow}
@@ -78,18 +80,27 @@ plating_in Strict plated = plating.Stated
 plating_in Wide true = plating.Stated
 plating_in Wide false = plating.Unplated
 
+-- what is heeded of what is said of a drill file's coordinates beside its text: in the strict profile nothing
+abbrev pub format_in : Profile → Option CoordinateFormat → Option CoordinateFormat
+format_in Strict format = None
+format_in Wide format = format
+
 -- the kind of a drill file that its role calls plated or unplated
-abbrev pub drill_kind : Profile → Bool → Kind
-drill_kind profile plated = record { profile = profile; plating = plating_in profile plated }
+abbrev pub drill_kind : Profile → Option CoordinateFormat → Bool → Kind
+drill_kind profile format plated = record { profile = profile; plating = plating_in profile plated; format = format_in profile format }
+
+-- the kind of a mixed drill file
+abbrev pub mixed_kind : Profile → Option CoordinateFormat → Kind
+mixed_kind profile format = record { profile = profile; plating = plating.Mixed; format = format_in profile format }
 
 -- what the check keeps of a drill text whose role calls its holes plated or unplated
 abbrev pub drill_view : Bool → List DrillCommand → DrillView
 drill_view plated commands = record { holes = holes_of commands; contradicted = contradicts plated commands }
 
 -- in the profile the bytes are a drill text whose role calls its holes plated or unplated, and this is what the check keeps of it; or they have this fault
-abbrev pub ReadsDrill : Profile → Bool → List ℕ → Result DrillView Fault → Type 0
-ReadsDrill Strict plated bytes answer = ReadsAs (drill_view plated) bytes answer
-ReadsDrill Wide plated bytes answer = ReadsAsBy (drill_kind Wide plated) (drill_view plated) bytes answer
+abbrev pub ReadsDrill : Profile → Option CoordinateFormat → Bool → List ℕ → Result DrillView Fault → Type 0
+ReadsDrill Strict format plated bytes answer = ReadsAs (drill_view plated) bytes answer
+ReadsDrill Wide format plated bytes answer = ReadsAsBy (drill_kind Wide format plated) (drill_view plated) bytes answer
 
 -- holes with this span, each plated or not as the other list says, as long as both lists go on
 abbrev pub holes_with_platings : Option LayerSpan → List GridHole → List Bool → List Drilled
@@ -100,6 +111,6 @@ holes_with_platings span holes plated = []
 abbrev pub mixed_holes : Option LayerSpan → List DrillCommand → List Drilled
 mixed_holes span commands = holes_with_platings span (holes_of commands) (plated_of commands)
 
--- in the profile the bytes are a mixed drill text that drills these holes with this span, or they have this fault
-abbrev pub ReadsMixed : Profile → Option LayerSpan → List ℕ → Result (List Drilled) Fault → Type 0
-ReadsMixed profile span bytes answer = ReadsAsBy (mixed_in profile) (mixed_holes span) bytes answer
+-- in the profile the bytes are a mixed drill text that drills these holes with the span that is said of it, or they have this fault
+abbrev pub ReadsMixed : Profile → Said → List ℕ → Result (List Drilled) Fault → Type 0
+ReadsMixed profile said bytes answer = ReadsAsBy (mixed_kind profile said.format) (mixed_holes said.span) bytes answer

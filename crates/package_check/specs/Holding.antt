@@ -123,7 +123,8 @@ HasTakenAll reader keep sources = HasTaken reader keep sources (λ i. true)
 
 -- between two states a reader has taken the files of a package at the indexes that pass a test
 abbrev pub TakesThose : PackageReader → PackageReader → List FileView → (ℕ → Bool) → Type 0
-TakesThose before after sources test = (keep : Keep) (taken : ℕ → Bool) → HasTaken before keep sources taken → HasTaken after keep sources (λ i. taken i || test i)
+TakesThose before after sources test = (keep : Keep) (taken : ℕ → Bool) → HasTaken before keep sources taken
+    → HasTaken after keep sources (λ i. taken i || test i)
 
 -- between two states a reader has taken this file, of whatever package that has it at this index
 abbrev pub TakesFile : PackageReader → PackageReader → ℕ → FileView → Type 0

@@ -41,4 +41,5 @@ RefusesAlike _ _ = ⊥
 
 -- in each profile a package whose files can all be read passes under just the rules that its board meets
 abbrev pub MeasuredPasses : Type 0
-MeasuredPasses = (profile : Profile) (sources : List FileView) (board : BoardView) (ring gap : Met) → IsBoard sources board → MeetsRings wide_pad_covers profile board.layers board.holes ring → MeetsGaps board.holes gap → PackagePasses profile sources ring gap
+MeasuredPasses = (profile : Profile) (sources : List FileView) (board : BoardView) (ring gap : Met) → IsBoard sources board
+    → MeetsRings wide_pad_covers profile board.layers board.holes ring → MeetsGaps board.holes gap → PackagePasses profile sources ring gap

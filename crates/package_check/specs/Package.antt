@@ -19,6 +19,7 @@ use Rattle.board.specs.declared.FileSum.{FileSum}
 use Rattle.board.specs.declared.Numbered.{Numbered}
 use Rattle.package_check.specs.declared.PackageFault.{PackageFault}
 use Rattle.manifest.specs.declared.Role.{Role}
+use Rattle.manifest.specs.declared.Said.{Said}
 use Rattle.package_check.specs.declared.contents.Content.{Content}
 use Rattle.package_check.specs.declared.PiecedFile.{PiecedFile}
 use Rattle.board.specs.declared.FileSum.TheVariants as sum
@@ -32,11 +33,11 @@ pub record Setting : Type 0 where
   pub layers : ℕ
   pub profile : Profile
 
--- a file: its role, its name, the span named for it, its bytes, and what it is read in
+-- a file: its role, its name, what is said of it beside its text, its bytes, and what it is read in
 pub record FileView : Type 0 where
   pub role : Role
   pub name : List ℕ
-  pub span : Option LayerSpan
+  pub said : Said
   pub bytes : List ℕ
   pub setting : Setting
 
@@ -47,11 +48,11 @@ is_copper _ = false
 
 -- the view of a file of the code
 abbrev pub file_view : Setting → File → FileView
-file_view setting file = record { role = file.role; name = file.name.now; span = file.span; bytes = file.bytes.now; setting = setting }
+file_view setting file = record { role = file.role; name = file.name.now; said = file.said; bytes = file.bytes.now; setting = setting }
 
--- a file of this role, span and bytes, its name left empty
-abbrev pub unnamed_file : Role → Option LayerSpan → Setting → List ℕ → FileView
-unnamed_file role span setting bytes = record { role = role; name = []; span = span; bytes = bytes; setting = setting }
+-- a file of this role and these bytes, of which this is said, its name left empty
+abbrev pub unnamed_file : Role → Said → Setting → List ℕ → FileView
+unnamed_file role said setting bytes = record { role = role; name = []; said = said; bytes = bytes; setting = setting }
 
 -- the views of files that are seen so, of a package that is read in a profile, each with the number of copper files among them
 abbrev pub views_in : {X : Type 0} → (Setting → X → FileView) → (X → Role) → Profile → List X → List FileView
@@ -88,27 +89,27 @@ HasCopperContent profile bytes (content.Layer image) = HasLayerView profile byte
 HasCopperContent profile bytes _ = ⊥
 
 -- this is what the check keeps of the bytes of a drill file, and the content has its plating and its span
-abbrev pub HasDrillContent : Profile → Bool → Option LayerSpan → List ℕ → Content → Type 0
-HasDrillContent profile plated span bytes (content.Drill has through drill) = ReadsDrill profile plated bytes (Ok drill) × (has ≡ plated) × (through ≡ span)
-HasDrillContent profile plated span bytes _ = ⊥
+abbrev pub HasDrillContent : Profile → Bool → Said → List ℕ → Content → Type 0
+HasDrillContent profile plated said bytes (content.Drill has through drill) = ReadsDrill profile said.format plated bytes (Ok drill) × (has ≡ plated) × (through ≡ said.span)
+HasDrillContent profile plated said bytes _ = ⊥
 
 -- the bytes of a mixed drill file drill just these holes, each plated as its tool is called, and the content has its span
-abbrev pub HasMixedContent : Profile → Option LayerSpan → List ℕ → Content → Type 0
-HasMixedContent profile span bytes (content.Mixed through holes) = ReadsMixed profile span bytes (Ok holes) × (through ≡ span)
-HasMixedContent profile span bytes _ = ⊥
+abbrev pub HasMixedContent : Profile → Said → List ℕ → Content → Type 0
+HasMixedContent profile said bytes (content.Mixed through holes) = ReadsMixed profile said bytes (Ok holes) × (through ≡ said.span)
+HasMixedContent profile said bytes _ = ⊥
 
 -- the bytes of a file have this content, as they are read by its role
 abbrev pub BytesHaveContent : FileView → Content → Type 0
 BytesHaveContent source content = elim source.role [
   | role.Copper ↦ HasCopperContent source.setting.profile source.bytes content
-  | role.Plated ↦ HasDrillContent source.setting.profile true source.span source.bytes content
-  | role.Unplated ↦ HasDrillContent source.setting.profile false source.span source.bytes content
-  | role.Mixed ↦ HasMixedContent source.setting.profile source.span source.bytes content
+  | role.Plated ↦ HasDrillContent source.setting.profile true source.said source.bytes content
+  | role.Unplated ↦ HasDrillContent source.setting.profile false source.said source.bytes content
+  | role.Mixed ↦ HasMixedContent source.setting.profile source.said source.bytes content
 ]
 
 -- a file has this content: its span is not bad, and its bytes have the content
 abbrev pub HasContent : FileView → Content → Type 0
-HasContent source content = (is_bad_span source.role source.span source.setting.layers ≡ false) × BytesHaveContent source content
+HasContent source content = (is_bad_span source.role source.said.span source.setting.layers ≡ false) × BytesHaveContent source content
 
 -- the files have these contents, one by one
 abbrev pub HaveContents : List FileView → List Content → Type 0
@@ -122,22 +123,22 @@ ReadsCopper profile bytes (Ok content) = HasCopperContent profile bytes content
 ReadsCopper profile bytes (Err fault) = ReadsLayer profile bytes (Err fault) ⊎ ((image : LayerView) × ReadsLayer profile bytes (Ok image) × (image.is_copper ≡ false) × (fault ≡ not_copper))
 
 -- a drill file has this content, or its text has this fault
-abbrev pub ReadsHoles : Profile → Bool → Option LayerSpan → List ℕ → Result Content Fault → Type 0
-ReadsHoles profile plated span bytes (Ok content) = HasDrillContent profile plated span bytes content
-ReadsHoles profile plated span bytes (Err fault) = ReadsDrill profile plated bytes (Err fault)
+abbrev pub ReadsHoles : Profile → Bool → Said → List ℕ → Result Content Fault → Type 0
+ReadsHoles profile plated said bytes (Ok content) = HasDrillContent profile plated said bytes content
+ReadsHoles profile plated said bytes (Err fault) = ReadsDrill profile said.format plated bytes (Err fault)
 
 -- a mixed drill file has this content, or its text has this fault
-abbrev pub ReadsMixedHoles : Profile → Option LayerSpan → List ℕ → Result Content Fault → Type 0
-ReadsMixedHoles profile span bytes (Ok content) = HasMixedContent profile span bytes content
-ReadsMixedHoles profile span bytes (Err fault) = ReadsMixed profile span bytes (Err fault)
+abbrev pub ReadsMixedHoles : Profile → Said → List ℕ → Result Content Fault → Type 0
+ReadsMixedHoles profile said bytes (Ok content) = HasMixedContent profile said bytes content
+ReadsMixedHoles profile said bytes (Err fault) = ReadsMixed profile said bytes (Err fault)
 
 -- the bytes of a file have this content or this fault, as they are read by its role
 abbrev pub ReadsBytes : FileView → Result Content Fault → Type 0
 ReadsBytes source answer = elim source.role [
   | role.Copper ↦ ReadsCopper source.setting.profile source.bytes answer
-  | role.Plated ↦ ReadsHoles source.setting.profile true source.span source.bytes answer
-  | role.Unplated ↦ ReadsHoles source.setting.profile false source.span source.bytes answer
-  | role.Mixed ↦ ReadsMixedHoles source.setting.profile source.span source.bytes answer
+  | role.Plated ↦ ReadsHoles source.setting.profile true source.said source.bytes answer
+  | role.Unplated ↦ ReadsHoles source.setting.profile false source.said source.bytes answer
+  | role.Mixed ↦ ReadsMixedHoles source.setting.profile source.said source.bytes answer
 ]
 
 -- a file whose span is bad has the fault `bad_span`, whatever its bytes are; another has what its bytes have
@@ -147,7 +148,7 @@ ReadsUnlessBadSpan false source answer = ReadsBytes source answer
 
 -- a file has this content or this fault
 abbrev pub Reads : FileView → Result Content Fault → Type 0
-Reads source answer = ReadsUnlessBadSpan (is_bad_span source.role source.span source.setting.layers) source answer
+Reads source answer = ReadsUnlessBadSpan (is_bad_span source.role source.said.span source.setting.layers) source answer
 
 -- the counts of a file: flashed pads, other flashes and contours of a layer, round holes and slots of a drill file, and of a mixed one those that are not plated;
 -- and of a drill file whether its comments contradict its role
@@ -252,7 +253,7 @@ FindingsNameTheirPlaces = (sources : List FileView) (rules : GridRules) (report 
 
 -- the view of a file that comes in pieces: its bytes are the pieces, joined
 abbrev pub pieced_file_view : Setting → PiecedFile → FileView
-pieced_file_view setting file = record { role = file.role; name = file.name.now; span = file.span; bytes = concat (map (λ piece. piece.now) file.pieces.now); setting = setting }
+pieced_file_view setting file = record { role = file.role; name = file.name.now; said = file.said; bytes = concat (map (λ piece. piece.now) file.pieces.now); setting = setting }
 
 -- the views of the files of a package that is read in a profile, each with the number of copper files among them
 abbrev pub pieced_file_views : Profile → List PiecedFile → List FileView

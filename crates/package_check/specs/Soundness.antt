@@ -23,7 +23,7 @@ use Rattle.drill_text.specs.Drilling.{AreHoles}
 use Rattle.drill_text.specs.Plating.{AreCalled}
 use Rattle.manifest.specs.declared.Role.{Role}
 use Rattle.manifest.specs.declared.Role.TheVariants as role
-use Rattle.package_check.specs.FileTexts.{is_copper_function, holes_with_platings}
+use Rattle.package_check.specs.FileTexts.{format_in, is_copper_function, holes_with_platings}
 use Rattle.pad_shapes.specs.declared.wide_pad.WidePad.TheVariants.{Plain}
 use Rattle.package_check.specs.Package.{FileView, IsReport, is_copper}
 use Rattle.package_check.specs.Reports.{ReportView}
@@ -46,7 +46,7 @@ pub record SaysPads (file : FileView) (pads : List WidePad) : Type 0 where
   pub written : gerber.IsTextIn file.setting.profile file.bytes commands
   pub made : MakePads file.setting.profile commands pads
   pub copper : is_copper_function (last_set function_set commands) ≡ true
-  pub spanless : file.span ≡ None
+  pub spanless : file.said.span ≡ None
 
 -- Holes of a drill file with their platings and its span: each hole of a file has the plating that the file's role says, and each of a mixed file is plated or unplated
 -- as the comment before the definition of its tool calls it. No drill file has the role Copper, and only the wide profile reads one with the role Mixed.
@@ -55,15 +55,16 @@ AreDrilledBy role.Mixed span commands holes drilled = (plated : List Bool) × Ar
 AreDrilledBy role.Plated span commands holes drilled = drilled ≡ map (λ hole. record { hole = hole; plated = true; span = span }) holes
 AreDrilledBy _ span commands holes drilled = drilled ≡ map (λ hole. record { hole = hole; plated = false; span = span }) holes
 
--- a drill file says these holes: its bytes are a text of commands by the grammar of the profile, these drill just the holes, and they have their platings and the span of
+-- a drill file says these holes: its bytes are a text of commands by the grammar of the profile, after what is said of its
+-- coordinates beside it, these drill just the holes, and they have their platings and the span of
 -- the file, which lies within the layers of the package
 pub record SaysHoles (file : FileView) (drilled : List Drilled) : Type 0 where
   pub commands : List DrillCommand
-  pub written : drill.IsText file.setting.profile file.bytes commands
+  pub written : drill.IsText file.setting.profile (format_in file.setting.profile file.said.format) file.bytes commands
   pub holes : List GridHole
   pub made : AreHoles commands holes
-  pub run : IsRun file.setting.layers file.span
-  pub is : AreDrilledBy file.role file.span commands holes drilled
+  pub run : IsRun file.setting.layers file.said.span
+  pub is : AreDrilledBy file.role file.said.span commands holes drilled
 
 -- a hole lies as the profile allows: in the strict one it is round or a slot along an axis, in the wide one a slot may lie at any angle
 abbrev pub LiesAsAllowed : Profile → GridHole → Type 0
@@ -103,4 +104,5 @@ HolesAreSaidOnce = (file : FileView) (a b : List Drilled) → SaysHoles file a �
 
 -- a package whose report has no finding is sound
 abbrev pub PassingIsSound : Type 0
-PassingIsSound = (sources : List FileView) (rules : GridRules) (report : ReportView) → IsReport sources rules report → report.findings ≡ [] → IsSound sources rules
+PassingIsSound = (sources : List FileView) (rules : GridRules) (report : ReportView) → IsReport sources rules report → report.findings ≡ []
+    → IsSound sources rules

@@ -43,7 +43,8 @@ pub record IsSoundAsRead (sources : List FileView) (rules : GridRules) : Type 0 
 
 -- a package whose report has no finding is sound by what is read of it
 abbrev pub PassingIsSoundAsRead : Type 0
-PassingIsSoundAsRead = (sources : List FileView) (rules : GridRules) (report : ReportView) → IsReport sources rules report → report.findings ≡ [] → IsSoundAsRead sources rules
+PassingIsSoundAsRead = (sources : List FileView) (rules : GridRules) (report : ReportView) → IsReport sources rules report → report.findings ≡ []
+    → IsSoundAsRead sources rules
 
 -- what is sound by what is read of it is sound by what is written
 abbrev pub SoundAsReadIsSound : Type 0

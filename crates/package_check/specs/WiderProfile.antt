@@ -1,5 +1,5 @@
 -- What the wide profile says of a package that the strict one reads: it reads it too, unless a file calls holes plated that its role calls unplated.
-use Rattle.std.specs.Prelude.{◌≡◌, ◌⊎◌, ◌++◌, ◌&&◌, ℕ, Bool, true, false, not, List, [], get_or, map}
+use Rattle.std.specs.Prelude.{◌≡◌, ◌⊎◌, ◌++◌, ◌&&◌, ℕ, Bool, true, false, not, List, [], get_or, map, None}
 use Rattle.std.specs.List.{AllByRecursion, Contains, enumerate_from, filter, flat_map, list_any}
 use Rattle.drill_lines.specs.declared.command.DrillCommand.{DrillCommand}
 use Rattle.drill_text.specs.Plating.{calls_plated}
@@ -14,6 +14,7 @@ use Rattle.ring_rules.specs.Findings.{gap_findings, layer_findings}
 use Rattle.ring_rules.specs.declared.finding.Finding.{Finding}
 use Rattle.ring_rules.specs.declared.finding.Finding.TheVariants.{Ring, Oblique}
 use Rattle.manifest.specs.declared.Role.TheVariants as role
+use Rattle.manifest.specs.declared.Said.{Said}
 use Rattle.board.specs.Boards.{BoardView}
 use Rattle.board_report.specs.BoardReport.{is_gap}
 use Rattle.package_check.specs.Boards.{IsFlashedBoard}
@@ -23,9 +24,14 @@ use Rattle.board.specs.declared.FileSum.{FileSum}
 use Rattle.board.specs.declared.FileSum.TheVariants as sum
 use Rattle.package_check.specs.declared.contents.Content.{Content}
 
+-- what is said of a file that is read in both profiles: not how its coordinates are written, which the strict one does not heed
+abbrev pub said_in : Profile → Said → Said
+said_in Strict said = said
+said_in Wide said = record { span = said.span; format = None }
+
 -- the same file, read in a profile
 abbrev pub read_in : Profile → FileView → FileView
-read_in profile source = record { role = source.role; name = source.name; span = source.span; bytes = source.bytes; setting = record { layers = source.setting.layers; profile = profile } }
+read_in profile source = record { role = source.role; name = source.name; said = said_in profile source.said; bytes = source.bytes; setting = record { layers = source.setting.layers; profile = profile } }
 
 -- A report in the wide profile beside that in the strict one: it has the same layers and holes, and the same gaps lack. A hole that lacks its ring on a layer lacks it in the strict profile too, or is an
 -- oblique slot there; and no slot is a finding for its angle alone.

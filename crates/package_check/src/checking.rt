@@ -1,12 +1,12 @@
 //! The check of a package whose drill files are read before its copper files.
 
-ghost use Rattle.std.specs.Prelude.{◌≡◌, ◌++◌, ◌∷◌, ℕ, List, [], Err, IfOk, Ok, OnErr, OnOk, Option, Result, Some, alloc_error, false, length, map};
+ghost use Rattle.std.specs.Prelude.{◌≡◌, ◌++◌, ◌∷◌, ℕ, List, [], Err, IfOk, Ok, OnErr, OnOk, Result, Some, alloc_error, false, length, map};
 ghost use Rattle.std.specs.List.{concat, flat_map, sum_by};
 ghost use Rattle.grid_units.specs.Holes.{GridRules};
-ghost use Rattle.grid_units.specs.Spans.{LayerSpan};
 ghost use Rattle.grid_units.specs.declared.fault.Fault.{Fault as TheFault};
 ghost use Rattle.layer_features.specs.declared.keep.Keep.{Keep as TheKeep};
 ghost use Rattle.manifest.specs.declared.Role.TheVariants as role;
+ghost use Rattle.manifest.specs.declared.Said.{Said as TheSaid};
 ghost use Rattle.package_check.specs.CheckViews.{CheckView, holes_in_slot, holes_of, is_drill_in, setting_of};
 ghost use Rattle.package_check.specs.Checking.{HasJudged, HasJudgedAll, TakesCopper};
 ghost use Rattle.package_check.specs.Holding.{HasTaken, ReadsInto, is_kind_at, kept_at, setting_of as reader_setting};
@@ -27,9 +27,9 @@ use crate::open_copper::{CopperReading, OpenCopper};
 use crate::package_reader::{is_wanted, next_stop, outcome};
 use crate::package_report::report_of;
 use crate::slots::{Kept, push, put};
-use crate::{FileSum, PackageFault, PackageReader, Report};
+use crate::{FileSum, PackageFault, PackageReader, Report, Said};
 use grid_units::{Fail, Rules};
-use ring_rules::{Drilled, Finding, Span};
+use ring_rules::{Drilled, Finding};
 use std::alloc::{AllocError, Global};
 use std::marker::Model;
 
@@ -135,13 +135,13 @@ impl PackageCheck {
         &mut self,
         index: usize,
         layer: usize,
-        span: Option<Span>,
+        said: Said,
         pieces: &[&[u8]],
     ) -> Result<(), AllocError>
         ensures stands { (name : List ℕ) → OnOk result (TakesCopper self.old self.new index layer (record {
           role = role.Copper;
           name = name;
-          span = span;
+          said = said;
           bytes = concat (map (λ piece. piece.now) pieces.now);
           setting = setting_of self.old;
         })) }
@@ -149,7 +149,7 @@ impl PackageCheck {
         ensures failed { self.old.stopped ≡ Some stop.Memory → result ≡ Err alloc_error }
         ensures fails { OnErr result (self.new.stopped ≡ Some stop.Memory) }
     {
-        let mut file = self.begin(index, layer, span);
+        let mut file = self.begin(index, layer, said);
         for piece in pieces {
             // Where memory ran out, the end says so.
             let _ = self.take_piece(&mut file, piece);
@@ -160,12 +160,12 @@ impl PackageCheck {
     /// Opens the copper file at this index of the package, from 0, whose layer has this number among the copper files, from 0, so that it
     /// can take its text piece by piece. One file is open at a time: each that is opened ends what was read of the one before. The check
     /// has taken the file once it was ended, as [`PackageCheck::end`] says.
-    pub fn begin(&mut self, index: usize, layer: usize, span: Option<Span>) -> OpenCopper
-        ensures { HasOpenedCopper self.old self.new index layer span result [] }
+    pub fn begin(&mut self, index: usize, layer: usize, said: Said) -> OpenCopper
+        ensures { HasOpenedCopper self.old self.new index layer said result [] }
     {
         self.holes.forget_search();
         let reading = if is_wanted(self.stopped, index) {
-            CopperReading::begin(self.alloc, span, self.holes.rules().profile())
+            CopperReading::begin(self.alloc, said, self.holes.rules().profile())
         } else {
             CopperReading::Skipped
         };
@@ -182,7 +182,7 @@ impl PackageCheck {
     ///
     /// An `AllocError` where there is no memory. A file that has failed so fails again.
     pub fn take_piece(&mut self, file: &mut OpenCopper, piece: &[u8]) -> Result<(), AllocError>
-        ensures { (start : CheckView) (index layer : ℕ) (span : Option LayerSpan) (text : List ℕ) → HasOpenedCopper start self.old index layer span file.old text → HasOpenedCopper start self.new index layer span file.new (text ++ piece.now) }
+        ensures { (start : CheckView) (index layer : ℕ) (said : TheSaid) (text : List ℕ) → HasOpenedCopper start self.old index layer said file.old text → HasOpenedCopper start self.new index layer said file.new (text ++ piece.now) }
     {
         file.read(self.alloc, &mut self.holes, piece)
     }
@@ -193,10 +193,10 @@ impl PackageCheck {
     ///
     /// An `AllocError` where there is no memory. A check that has failed so fails again.
     pub fn end(&mut self, file: OpenCopper) -> Result<(), AllocError>
-        ensures stands { (start : CheckView) (index layer : ℕ) (span : Option LayerSpan) (text name : List ℕ) → HasOpenedCopper start self.old index layer span file text → OnOk result (TakesCopper start self.new index layer (record {
+        ensures stands { (start : CheckView) (index layer : ℕ) (said : TheSaid) (text name : List ℕ) → HasOpenedCopper start self.old index layer said file text → OnOk result (TakesCopper start self.new index layer (record {
           role = role.Copper;
           name = name;
-          span = span;
+          said = said;
           bytes = text;
           setting = setting_of start;
         })) }
@@ -217,7 +217,7 @@ impl PackageCheck {
 
     /// Puts what is left of a copper file that was read into its slot, unless a drill file was taken at its index.
     fn put_file(&mut self, file: OpenCopper) -> Result<(), Fail>
-        ensures read { (span : Option LayerSpan) (text : List ℕ) → HasReadCopper (holes_of self.old) file.layer span self.old.layers file.reading text → is_drill_in (kept_at self.old.slots file.index) ≡ false → ReadsInto (λ one. Judges self.old.rules self.old.holes file.layer (unnamed_file role.Copper span (setting_of self.old) text) (Ok one)) file.index (unnamed_file role.Copper span (setting_of self.old) text) self.old.slots self.new.slots result }
+        ensures read { (said : TheSaid) (text : List ℕ) → HasReadCopper (holes_of self.old) file.layer said self.old.layers file.reading text → is_drill_in (kept_at self.old.slots file.index) ≡ false → ReadsInto (λ one. Judges self.old.rules self.old.holes file.layer (unnamed_file role.Copper said (setting_of self.old) text) (Ok one)) file.index (unnamed_file role.Copper said (setting_of self.old) text) self.old.slots self.new.slots result }
         ensures layers { self.new.layers ≡ self.old.layers }
         ensures holes { self.new.holes ≡ self.old.holes }
         ensures rules { self.new.rules ≡ self.old.rules }

@@ -3,17 +3,16 @@ ghost use Rattle.std.specs.Prelude.{◌≡◌, ℕ, List, OnOk, true};
 ghost use Rattle.grid_units.specs.Results.{Answers};
 ghost use Rattle.grid_units.specs.declared.fault.Fail.TheVariants as fails;
 ghost use Rattle.drill_text.specs.Holding.{StandsBy};
-ghost use Rattle.drill_text.specs.Profiles.{mixed_in};
 ghost use Rattle.grid_units.specs.declared.profile.Profile.{Profile as TheProfile};
 ghost use Rattle.drill_text.specs.declared.kept.Keep.TheVariants as drill_keep;
 ghost use Rattle.layer_features.specs.Kept.{keeps_drawn, keeps_rows};
-ghost use Rattle.package_check.specs.FileTexts.{Draws, drill_kind};
+ghost use Rattle.package_check.specs.FileTexts.{Draws, drill_kind, mixed_kind};
 ghost use Rattle.package_check.specs.Holding.{HasShown, is_kind};
 ghost use Rattle.package_check.specs.OpenFiles.{CopperStandsIn};
 ghost use Rattle.package_check.specs.Package.{ReadsCopper, ReadsHoles, ReadsMixedHoles, is_bad_span, is_copper};
 
-use crate::Role;
 use crate::readers::{Drill, Layer, MixedDrill, marked, view};
+use crate::{Role, Said};
 use board::Shown;
 use drill_text::DrillReader;
 use grid_units::{Fail, Fault, Reason};
@@ -69,12 +68,8 @@ pub(crate) fn read_copper(
 }
 
 /// The content of the drill file whose text the reader has read.
-pub(crate) fn read_drill(
-    plated: bool,
-    span: Option<Span>,
-    reader: DrillReader,
-) -> Result<Content, Fail>
-    ensures { (profile : TheProfile) (text : List ℕ) → StandsBy reader (drill_kind profile plated) drill_keep.Holes text → Answers (λ x. x) (ReadsHoles profile plated span text) result }
+pub(crate) fn read_drill(plated: bool, said: Said, reader: DrillReader) -> Result<Content, Fail>
+    ensures { (profile : TheProfile) (text : List ℕ) → StandsBy reader (drill_kind profile said.format plated) drill_keep.Holes text → Answers (λ x. x) (ReadsHoles profile plated said text) result }
 {
     let drill = reader.finish()?;
     let contradicted = drill.contradicts(plated);
@@ -84,21 +79,18 @@ pub(crate) fn read_drill(
     };
     Ok(Content::Drill {
         plated,
-        span,
+        span: said.span,
         drill,
     })
 }
 
 /// The content of the mixed drill file whose text the reader has read.
-pub(crate) fn read_mixed(
-    alloc: Global,
-    span: Option<Span>,
-    reader: DrillReader,
-) -> Result<Content, Fail>
-    ensures { (profile : TheProfile) (text : List ℕ) → StandsBy reader (mixed_in profile) drill_keep.Holes text → Answers (λ x. x) (ReadsMixedHoles profile span text) result }
+pub(crate) fn read_mixed(alloc: Global, said: Said, reader: DrillReader) -> Result<Content, Fail>
+    ensures { (profile : TheProfile) (text : List ℕ) → StandsBy reader (mixed_kind profile said.format) drill_keep.Holes text → Answers (λ x. x) (ReadsMixedHoles profile said text) result }
 {
     let drill = reader.finish()?;
     let (holes, plated) = drill.into_plated_holes();
+    let span = said.span;
     let holes = marked(alloc, &span, &holes, &plated)?;
     let drill = MixedDrill { holes };
     Ok(Content::Mixed { span, drill })

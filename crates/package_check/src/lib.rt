@@ -26,7 +26,7 @@ pub use fewer::fewer_in_wide;
 use grid_units::Fault;
 pub use layer_features::Keep;
 pub use lines::FileLines;
-pub use manifest::Role;
+pub use manifest::{Role, Said};
 pub use measure::measure_bytes;
 pub use open_copper::OpenCopper;
 pub use open_file::OpenFile;
@@ -42,8 +42,8 @@ use thiserror::Error;
 pub struct File<'a> {
     pub role: Role,
     pub name: &'a str,
-    /// The layers that a drill file's holes go through: all where there is no span.
-    pub span: Option<Span>,
+    /// What else is said of it beside its text: of a copper file nothing.
+    pub said: Said,
     pub bytes: &'a [u8],
 }
 
@@ -52,8 +52,8 @@ pub struct File<'a> {
 pub struct PiecedFile<'a> {
     pub role: Role,
     pub name: &'a str,
-    /// The layers that a drill file's holes go through: all where there is no span.
-    pub span: Option<Span>,
+    /// What else is said of it beside its text: of a copper file nothing.
+    pub said: Said,
     pub pieces: &'a [&'a [u8]],
 }
 

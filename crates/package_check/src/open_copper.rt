@@ -1,21 +1,21 @@
 //! A copper file of a check that is being read piece by piece.
 
-ghost use Rattle.std.specs.Prelude.{◌≡◌, ◌++◌, ℕ, List, [], IfErr, IfOk, None, OnOk, Option, false};
+ghost use Rattle.std.specs.Prelude.{◌≡◌, ◌++◌, ℕ, List, [], IfErr, IfOk, None, OnOk, false};
 ghost use Rattle.grid_units.specs.Results.{Answers};
-ghost use Rattle.grid_units.specs.Spans.{LayerSpan};
 ghost use Rattle.manifest.specs.declared.Role.TheVariants as role;
+ghost use Rattle.manifest.specs.declared.Said.{Said as TheSaid};
 ghost use Rattle.package_check.specs.CheckViews.{is_drill_sum};
 ghost use Rattle.package_check.specs.HoleViews.{HolesView};
 ghost use Rattle.package_check.specs.Judging.{Judges};
 ghost use Rattle.package_check.specs.OpenFiles.{HasFailed, HasReadCopper};
 ghost use Rattle.package_check.specs.Package.{unnamed_file};
 
+use crate::Said;
 use crate::checking::Judged;
 use crate::contents::refusal;
 use crate::indexed_holes::IndexedHoles;
 use grid_units::{Fail, Profile, Reason};
 use layer_image::{Keep, LayerReader, readings_in_profiles};
-use ring_rules::Span;
 use std::alloc::{AllocError, Global};
 use std::mem;
 
@@ -31,11 +31,11 @@ pub(crate) enum CopperReading {
 }
 
 impl CopperReading {
-    /// A copper file of this span, of which nothing was read. It is read in this profile.
-    pub(crate) fn begin(alloc: Global, span: Option<Span>, profile: Profile) -> CopperReading
-        ensures { (holes : HolesView) (layer layers : ℕ) → holes.search ≡ None → holes.rules.profile ≡ profile → HasReadCopper holes layer span layers result [] }
+    /// A copper file of which this is said, and of which nothing was read. It is read in this profile.
+    pub(crate) fn begin(alloc: Global, said: Said, profile: Profile) -> CopperReading
+        ensures { (holes : HolesView) (layer layers : ℕ) → holes.search ≡ None → holes.rules.profile ≡ profile → HasReadCopper holes layer said layers result [] }
     {
-        match span {
+        match said.span {
             Some(_) => CopperReading::Failed(refusal(Reason::BadSpan)),
             None => CopperReading::Layer(LayerReader::in_profile(alloc, Keep::Pads, profile)),
         }
@@ -49,8 +49,8 @@ impl CopperReading {
         layer: usize,
         piece: &[u8],
     ) -> Result<(), Fail>
-        ensures ok { (span : Option LayerSpan) (layers : ℕ) (text : List ℕ) → HasReadCopper holes.old layer span layers self.old text → OnOk result (HasReadCopper holes.new layer span layers self.new (text ++ piece.now)) }
-        ensures err { (span : Option LayerSpan) (layers : ℕ) (text : List ℕ) → HasReadCopper holes.old layer span layers self.old text → IfErr result (λ fail. HasFailed role.Copper span (record { layers = layers; profile = holes.old.rules.profile }) fail (text ++ piece.now)) }
+        ensures ok { (said : TheSaid) (layers : ℕ) (text : List ℕ) → HasReadCopper holes.old layer said layers self.old text → OnOk result (HasReadCopper holes.new layer said layers self.new (text ++ piece.now)) }
+        ensures err { (said : TheSaid) (layers : ℕ) (text : List ℕ) → HasReadCopper holes.old layer said layers self.old text → IfErr result (λ fail. HasFailed role.Copper said (record { layers = layers; profile = holes.old.rules.profile }) fail (text ++ piece.now)) }
         ensures holes { holes.new.holes ≡ holes.old.holes }
         ensures rules { holes.new.rules ≡ holes.old.rules }
     {
@@ -69,7 +69,7 @@ impl CopperReading {
         layer: usize,
     ) -> Result<Judged, Fail>
         ensures layer { IfOk result (λ one. is_drill_sum one.sum ≡ false) }
-        ensures judged { (span : Option LayerSpan) (layers : ℕ) (text : List ℕ) → HasReadCopper holes.old layer span layers self text → Answers (λ x. x) (Judges holes.old.rules holes.old.holes layer (unnamed_file role.Copper span (record { layers = layers; profile = holes.old.rules.profile }) text)) result }
+        ensures judged { (said : TheSaid) (layers : ℕ) (text : List ℕ) → HasReadCopper holes.old layer said layers self text → Answers (λ x. x) (Judges holes.old.rules holes.old.holes layer (unnamed_file role.Copper said (record { layers = layers; profile = holes.old.rules.profile }) text)) result }
         ensures holes { holes.new.holes ≡ holes.old.holes }
         ensures rules { holes.new.rules ≡ holes.old.rules }
     {
@@ -102,7 +102,7 @@ impl OpenCopper {
         holes: &mut IndexedHoles,
         piece: &[u8],
     ) -> Result<(), AllocError>
-        ensures read { (span : Option LayerSpan) (layers : ℕ) (text : List ℕ) → HasReadCopper holes.old self.old.layer span layers self.old.reading text → HasReadCopper holes.new self.old.layer span layers self.new.reading (text ++ piece.now) }
+        ensures read { (said : TheSaid) (layers : ℕ) (text : List ℕ) → HasReadCopper holes.old self.old.layer said layers self.old.reading text → HasReadCopper holes.new self.old.layer said layers self.new.reading (text ++ piece.now) }
         ensures index { self.new.index ≡ self.old.index }
         ensures layer { self.new.layer ≡ self.old.layer }
         ensures holes { holes.new.holes ≡ holes.old.holes }

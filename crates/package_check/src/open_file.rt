@@ -1,24 +1,27 @@
 //! A file of a package that is being read piece by piece.
 
-ghost use Rattle.std.specs.Prelude.{◌≡◌, ◌++◌, ℕ, List, [], IfErr, OnOk, true, false, Option};
+ghost use Rattle.std.specs.Prelude.{◌≡◌, ◌++◌, ℕ, List, [], IfErr, IfOk, OnOk, true, false};
+ghost use Rattle.drill_text.specs.Holding.{StandsBy};
+ghost use Rattle.drill_text.specs.declared.kept.Keep.TheVariants as drill_keep;
 ghost use Rattle.grid_units.specs.Results.{Answers};
-ghost use Rattle.grid_units.specs.Spans.{LayerSpan};
+ghost use Rattle.grid_units.specs.declared.fault.Fail.TheVariants as fails;
 ghost use Rattle.layer_features.specs.Kept.{keeps_drawn, keeps_rows};
 ghost use Rattle.layer_features.specs.declared.keep.Keep.{Keep as TheKeep};
 ghost use Rattle.manifest.specs.declared.Role.{Role as TheRole};
-ghost use Rattle.package_check.specs.FileTexts.{Draws, plating_in};
+ghost use Rattle.manifest.specs.declared.Said.{Said as TheSaid};
+ghost use Rattle.package_check.specs.FileTexts.{Draws, format_in, plating_in};
 ghost use Rattle.package_check.specs.Holding.{HasShown};
 ghost use Rattle.package_check.specs.OpenFiles.{HasFailed, HasOpened, HasReadText, copper_keep, drill_role};
 ghost use Rattle.package_check.specs.Package.{Reads, Setting, is_bad_span, is_copper, unnamed_file};
 ghost use Rattle.package_check.specs.declared.package_reader.PackageReader.{PackageReader as TheReader};
 
-use crate::Role;
 use crate::contents::{Content, is_bad_span, read_copper, read_drill, read_mixed, refusal};
+use crate::{Role, Said};
 use board::Shown;
+use drill_lines::CoordinateFormat;
 use drill_text::{DrillReader, PlatingKind};
 use grid_units::{Fail, Profile, Reason};
 use layer_image::{Keep, LayerReader};
-use ring_rules::Span;
 use std::alloc::{AllocError, Global};
 use std::mem;
 
@@ -49,49 +52,79 @@ fn plating_in(profile: Profile, plated: bool) -> PlatingKind
     }
 }
 
-/// A drill file of which nothing was read.
-fn begin_drill(alloc: Global, plated: bool, profile: Profile) -> Reading
-    ensures { (keep : TheKeep) (of : TheRole) (span : Option LayerSpan) (layers : ℕ) → of ≡ drill_role plated → is_bad_span of span layers ≡ false → HasReadText keep of span (record { layers = layers; profile = profile }) result [] }
+/// What is heeded of what is said of a drill file's coordinates: in the strict profile nothing.
+fn format_in(profile: Profile, format: Option<CoordinateFormat>) -> Option<CoordinateFormat>
+    ensures { result ≡ format_in profile format }
+{
+    match profile {
+        Profile::Strict => None,
+        Profile::Wide => format,
+    }
+}
+
+/// A reader of a drill file of this kind of which nothing was read.
+fn begin_drill(
+    alloc: Global,
+    profile: Profile,
+    known: PlatingKind,
+    format: Option<CoordinateFormat>,
+) -> Result<DrillReader, Fail>
+    ensures stands { IfOk result (λ reader. StandsBy reader (record { profile = profile; plating = known; format = format_in profile format }) drill_keep.Holes []) }
+    ensures fails { IfErr result (λ fail. fail ≡ fails.Memory) }
+{
+    let mut reader = DrillReader::of_kind(alloc, drill_text::Keep::Holes, profile, known);
+    match format_in(profile, format) {
+        Some(format) => {
+            reader.say(format)?;
+            Ok(reader)
+        }
+        None => Ok(reader),
+    }
+}
+
+/// A drill file whose holes are alike, and of which nothing was read.
+fn begin_alike(alloc: Global, plated: bool, profile: Profile, said: &Said) -> Reading
+    ensures { (keep : TheKeep) (of : TheRole) (layers : ℕ) → of ≡ drill_role plated → is_bad_span of said.now.span layers ≡ false → HasReadText keep of said.now (record { layers = layers; profile = profile }) result [] }
 {
     let known = plating_in(profile, plated);
-    let reader = DrillReader::of_kind(alloc, drill_text::Keep::Holes, profile, known);
-    Reading::Drill { plated, reader }
+    match begin_drill(alloc, profile, known, said.format) {
+        Ok(reader) => Reading::Drill { plated, reader },
+        Err(fail) => Reading::Failed(fail),
+    }
 }
 
 impl Reading {
-    /// A file of this role and span, in a package of so many copper files, of which nothing was read.
+    /// A file of this role, of which this is said, in a package of so many copper files, of which nothing was read.
     pub(crate) fn begin(
         alloc: Global,
         keep: Keep,
         role: Role,
-        span: &Option<Span>,
+        said: &Said,
         layers: usize,
         profile: Profile,
     ) -> Reading
-        ensures { HasReadText keep role span.now (record { layers = layers; profile = profile }) result [] }
+        ensures { HasReadText keep role said.now (record { layers = layers; profile = profile }) result [] }
     {
-        if is_bad_span(role, *span, layers) {
+        if is_bad_span(role, said.span, layers) {
             return Reading::Failed(refusal(Reason::BadSpan));
         }
         match role {
             Role::Copper => {
                 Reading::Layer(LayerReader::in_profile(alloc, copper_keep(keep), profile))
             }
-            Role::Plated => begin_drill(alloc, true, profile),
-            Role::Unplated => begin_drill(alloc, false, profile),
-            Role::Mixed => Reading::Mixed(DrillReader::of_kind(
-                alloc,
-                drill_text::Keep::Holes,
-                profile,
-                PlatingKind::Mixed,
-            )),
+            Role::Plated => begin_alike(alloc, true, profile, said),
+            Role::Unplated => begin_alike(alloc, false, profile, said),
+            Role::Mixed => match begin_drill(alloc, profile, PlatingKind::Mixed, said.format) {
+                Ok(reader) => Reading::Mixed(reader),
+                Err(fail) => Reading::Failed(fail),
+            },
         }
     }
 
     /// Reads the next piece.
     fn feed(&mut self, piece: &[u8]) -> Result<(), Fail>
-        ensures ok { (keep : TheKeep) (of : TheRole) (span : Option LayerSpan) (setting : Setting) (text : List ℕ) → HasReadText keep of span setting self.old text → OnOk result (HasReadText keep of span setting self.new (text ++ piece.now)) }
-        ensures err { (keep : TheKeep) (of : TheRole) (span : Option LayerSpan) (setting : Setting) (text : List ℕ) → HasReadText keep of span setting self.old text → IfErr result (λ fail. HasFailed of span setting fail (text ++ piece.now)) }
+        ensures ok { (keep : TheKeep) (of : TheRole) (said : TheSaid) (setting : Setting) (text : List ℕ) → HasReadText keep of said setting self.old text → OnOk result (HasReadText keep of said setting self.new (text ++ piece.now)) }
+        ensures err { (keep : TheKeep) (of : TheRole) (said : TheSaid) (setting : Setting) (text : List ℕ) → HasReadText keep of said setting self.old text → IfErr result (λ fail. HasFailed of said setting fail (text ++ piece.now)) }
     {
         layer_image::readings_in_profiles();
         drill_text::laws::readings_of_kinds();
@@ -109,16 +142,16 @@ impl Reading {
         alloc: Global,
         keep: Keep,
         shown: &mut Shown,
-        span: Option<Span>,
+        said: Said,
     ) -> Result<Content, Fail>
-        ensures content { (of : TheRole) (setting : Setting) (text : List ℕ) → HasReadText keep of span setting self text → Answers (λ x. x) (Reads (unnamed_file of span setting text)) result }
-        ensures flashes { (of : TheRole) (setting : Setting) (text : List ℕ) → HasReadText keep of span setting self text → keeps_rows keep ≡ true → is_copper of ≡ true → OnOk result (HasShown setting.profile text shown.new) }
-        ensures drawn { (of : TheRole) (setting : Setting) (text : List ℕ) → HasReadText keep of span setting self text → keeps_drawn keep ≡ true → is_copper of ≡ true → OnOk result (Draws setting.profile text shown.new.drawn.items) }
+        ensures content { (of : TheRole) (setting : Setting) (text : List ℕ) → HasReadText keep of said setting self text → Answers (λ x. x) (Reads (unnamed_file of said setting text)) result }
+        ensures flashes { (of : TheRole) (setting : Setting) (text : List ℕ) → HasReadText keep of said setting self text → keeps_rows keep ≡ true → is_copper of ≡ true → OnOk result (HasShown setting.profile text shown.new) }
+        ensures drawn { (of : TheRole) (setting : Setting) (text : List ℕ) → HasReadText keep of said setting self text → keeps_drawn keep ≡ true → is_copper of ≡ true → OnOk result (Draws setting.profile text shown.new.drawn.items) }
     {
         match self {
             Reading::Layer(reader) => read_copper(alloc, keep, shown, reader),
-            Reading::Drill { plated, reader } => read_drill(plated, span, reader),
-            Reading::Mixed(reader) => read_mixed(alloc, span, reader),
+            Reading::Drill { plated, reader } => read_drill(plated, said, reader),
+            Reading::Mixed(reader) => read_mixed(alloc, said, reader),
             Reading::Failed(fail) => Err(fail),
             Reading::Skipped => Err(Fail::Memory),
         }
@@ -130,7 +163,7 @@ impl Reading {
 pub struct OpenFile {
     pub(crate) index: usize,
     pub(crate) role: Role,
-    pub(crate) span: Option<Span>,
+    pub(crate) said: Said,
     pub(crate) reading: Reading,
 }
 
@@ -141,7 +174,7 @@ impl OpenFile {
     ///
     /// An `AllocError` where there is no memory. A file that has failed so fails again.
     pub fn take(&mut self, piece: &[u8]) -> Result<(), AllocError>
-        ensures { (reader : TheReader) (index : ℕ) (of : TheRole) (span : Option LayerSpan) (text : List ℕ) → HasOpened reader index of span self.old text → HasOpened reader index of span self.new (text ++ piece.now) }
+        ensures { (reader : TheReader) (index : ℕ) (of : TheRole) (said : TheSaid) (text : List ℕ) → HasOpened reader index of said self.old text → HasOpened reader index of said self.new (text ++ piece.now) }
     {
         if let Err(fail) = self.reading.feed(piece) {
             // A call of `drop`: the proof need not go through the parts of the reader that was there.

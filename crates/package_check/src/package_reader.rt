@@ -1,12 +1,12 @@
 //! A package whose files are taken in any order.
 
-ghost use Rattle.std.specs.Prelude.{◌≡◌, ℕ, List, [], Option, true, false, Some, Err, OnOk, OnErr, alloc_error, map};
+ghost use Rattle.std.specs.Prelude.{◌≡◌, ℕ, List, [], true, false, Some, Err, OnOk, OnErr, alloc_error, map};
 ghost use Rattle.std.specs.List.{concat};
-ghost use Rattle.grid_units.specs.Spans.{LayerSpan};
 ghost use Rattle.layer_features.specs.Kept.{keeps_drawn, keeps_rows};
 ghost use Rattle.layer_features.specs.declared.keep.Keep.{Keep as TheKeep};
 ghost use Rattle.layer_features.specs.declared.keep.Keep.TheVariants as keep;
 ghost use Rattle.manifest.specs.declared.Role.{Role as TheRole};
+ghost use Rattle.manifest.specs.declared.Said.{Said as TheSaid};
 ghost use Rattle.package_check.specs.Boards.{IsBoard, IsDrawnBoard, IsFlashedBoard, Returns};
 ghost use Rattle.package_check.specs.Package.{FileView, unnamed_file};
 ghost use Rattle.package_check.specs.Holding.{ReadsAt, is_wanted, next_stop};
@@ -16,12 +16,11 @@ ghost use Rattle.package_check.specs.declared.PackageFault.TheVariants as stop;
 use crate::boards::board_of;
 use crate::open_file::{OpenFile, Reading};
 use crate::slots::{Kept, put};
-use crate::{Board, PackageFault, Role};
+use crate::{Board, PackageFault, Role, Said};
 use board::Shown;
 use grid_units::{Fail, Profile};
 use layer_features::Keep;
 use layer_image::readings_in_profiles;
-use ring_rules::Span;
 use std::alloc::{AllocError, Global};
 
 /// A reader of a package, which takes its files in any order, each by its index in the package. It keeps the pads of a layer and the holes
@@ -74,13 +73,13 @@ impl PackageReader {
         &mut self,
         index: usize,
         role: Role,
-        span: Option<Span>,
+        said: Said,
         pieces: &[&[u8]],
     ) -> Result<(), AllocError>
         ensures stands { (name : List ℕ) → OnOk result (TakesFile self.old self.new index (record {
           role = role;
           name = name;
-          span = span;
+          said = said;
           bytes = concat (map (λ piece. piece.now) pieces.now);
           setting = setting_of self.old;
         })) }
@@ -88,7 +87,7 @@ impl PackageReader {
         ensures failed { IsOutOfMemory self.old → result ≡ Err alloc_error }
         ensures fails { OnErr result (IsOutOfMemory self.new) }
     {
-        let mut file = self.begin(index, role, span);
+        let mut file = self.begin(index, role, said);
         for piece in pieces {
             // Where memory ran out, the end says so.
             let _ = file.take(piece);
@@ -98,15 +97,15 @@ impl PackageReader {
 
     /// Opens the file at this index of the package, from 0, so that it can take its text piece by piece. The reader has taken it once it
     /// was ended, as [`PackageReader::end`] says.
-    pub fn begin(&self, index: usize, role: Role, span: Option<Span>) -> OpenFile
-        ensures { HasOpened self.now index role span result [] }
+    pub fn begin(&self, index: usize, role: Role, said: Said) -> OpenFile
+        ensures { HasOpened self.now index role said result [] }
     {
         let reading = if is_wanted(self.stopped, index) {
             Reading::begin(
                 self.alloc,
                 self.keep,
                 role,
-                &span,
+                &said,
                 self.layers,
                 self.profile,
             )
@@ -116,7 +115,7 @@ impl PackageReader {
         OpenFile {
             index,
             role,
-            span,
+            said,
             reading,
         }
     }
@@ -127,10 +126,10 @@ impl PackageReader {
     ///
     /// An `AllocError` where there is no memory. A reader that has failed so fails again.
     pub fn end(&mut self, file: OpenFile) -> Result<(), AllocError>
-        ensures stands { (index : ℕ) (role : TheRole) (span : Option LayerSpan) (text name : List ℕ) → HasOpened self.old index role span file text → OnOk result (TakesFile self.old self.new index (record {
+        ensures stands { (index : ℕ) (role : TheRole) (said : TheSaid) (text name : List ℕ) → HasOpened self.old index role said file text → OnOk result (TakesFile self.old self.new index (record {
           role = role;
           name = name;
-          span = span;
+          said = said;
           bytes = text;
           setting = setting_of self.old;
         })) }
@@ -151,14 +150,14 @@ impl PackageReader {
 
     /// Puts what is kept of a file into its slot.
     fn put_file(&mut self, file: OpenFile) -> Result<(), Fail>
-        ensures read { (text : List ℕ) → HasReadText self.old.keep file.role file.span (setting_of self.old) file.reading text → ReadsAt self.old.keep file.index (unnamed_file file.role file.span (setting_of self.old) text) self.old.slots.items self.new.slots.items result }
+        ensures read { (text : List ℕ) → HasReadText self.old.keep file.role file.said (setting_of self.old) file.reading text → ReadsAt self.old.keep file.index (unnamed_file file.role file.said (setting_of self.old) text) self.old.slots.items self.new.slots.items result }
         ensures setting { setting_of self.new ≡ setting_of self.old }
         ensures keep { self.new.keep ≡ self.old.keep }
         ensures stopped { self.new.stopped ≡ self.old.stopped }
     {
         let mut shown = Shown::nothing(self.alloc);
         let reading = file.reading;
-        match reading.finish(self.alloc, self.keep, &mut shown, file.span) {
+        match reading.finish(self.alloc, self.keep, &mut shown, file.said) {
             Ok(content) => Ok(put(&mut self.slots, file.index, Kept { content, shown })?),
             Err(fail) => {
                 // A call of `drop`: the proof need not go through the parts.

@@ -51,7 +51,7 @@ impl SourceFile for File<'_> {
     }
 
     fn give(&self, reader: &mut PackageReader, index: usize) -> Result<(), AllocError> {
-        reader.take(index, self.role, self.span, &[self.bytes])
+        reader.take(index, self.role, self.said, &[self.bytes])
     }
 
     fn give_copper(
@@ -60,7 +60,7 @@ impl SourceFile for File<'_> {
         index: usize,
         layer: usize,
     ) -> Result<(), AllocError> {
-        check.take(index, layer, self.span, &[self.bytes])
+        check.take(index, layer, self.said, &[self.bytes])
     }
 
     ghost have_roles = { λ setting file. refl };
@@ -76,7 +76,7 @@ impl SourceFile for PiecedFile<'_> {
     }
 
     fn give(&self, reader: &mut PackageReader, index: usize) -> Result<(), AllocError> {
-        reader.take(index, self.role, self.span, self.pieces)
+        reader.take(index, self.role, self.said, self.pieces)
     }
 
     fn give_copper(
@@ -85,7 +85,7 @@ impl SourceFile for PiecedFile<'_> {
         index: usize,
         layer: usize,
     ) -> Result<(), AllocError> {
-        check.take(index, layer, self.span, self.pieces)
+        check.take(index, layer, self.said, self.pieces)
     }
 
     ghost have_roles = { λ setting file. refl };

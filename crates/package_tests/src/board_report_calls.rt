@@ -2,7 +2,7 @@
 
 use board_report::*;
 use grid_units::{Profile, Rules};
-use package_check::{File, Keep, Role, read_package};
+use package_check::{File, Keep, Role, Said, read_package};
 use report::{RingCause, RingLack, RoleConflict};
 use std::alloc::Global;
 use std::test::Fail;
@@ -30,7 +30,10 @@ fn file<'a>(role: Role, bytes: &'a [u8]) -> File<'a> {
     File {
         role,
         name: "file",
-        span: None,
+        said: Said {
+            span: None,
+            format: None,
+        },
         bytes,
     }
 }

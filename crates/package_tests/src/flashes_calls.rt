@@ -1,7 +1,7 @@
 //! The flashes of a package's files, and what else they draw.
 
 use grid_units::Profile;
-use package_check::{File, Keep, PackageFault, Role, read_package};
+use package_check::{File, Keep, PackageFault, Role, Said, read_package};
 use std::test::Fail as Failure;
 
 const TWO: &[u8] =
@@ -17,7 +17,10 @@ fn file<'a>(role: Role, bytes: &'a [u8]) -> File<'a> {
     File {
         role,
         name: "file",
-        span: None,
+        said: Said {
+            span: None,
+            format: None,
+        },
         bytes,
     }
 }

@@ -8,10 +8,6 @@ mod flashes_calls;
 #[cfg(test)]
 mod measure_calls;
 #[cfg(test)]
-mod mixed_calls;
-#[cfg(test)]
 mod package_check_calls;
-#[cfg(test)]
-mod profile_calls;
 #[cfg(test)]
 mod unplated_calls;

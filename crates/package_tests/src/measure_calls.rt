@@ -5,7 +5,9 @@ mod made;
 use board::Met;
 use board_report::{files_with_holes, measure_board, place_among, place_of};
 use grid_units::{Fault, Profile, Reason, Rules};
-use package_check::{File, Keep, PackageFault, Role, check_bytes, measure_bytes, read_package};
+use package_check::{
+    File, Keep, PackageFault, Role, Said, check_bytes, measure_bytes, read_package,
+};
 use report::{GapLine, HolePlace, LeastRing, Meets, RingLine, UnitFactor, UnitMistake};
 use std::alloc::Global;
 use std::test::Fail as Failure;
@@ -57,7 +59,10 @@ fn file<'a>(role: Role, name: &'a str, bytes: &'a [u8]) -> File<'a> {
     File {
         role,
         name,
-        span: None,
+        said: Said {
+            span: None,
+            format: None,
+        },
         bytes,
     }
 }

@@ -3,7 +3,7 @@
 use grid_units::{Fault, Profile, Reason, Rules};
 use package_check::{
     Board, CheckText, File, FileLines, FileSum, Keep, PackageCheck, PackageFault, PackageReader,
-    PiecedFile, Report, Role, Span, check_bytes, check_pieces, layer_count, read_package,
+    PiecedFile, Report, Role, Said, Span, check_bytes, check_pieces, layer_count, read_package,
     write_report,
 };
 use std::alloc::{AllocError, Global};
@@ -44,16 +44,10 @@ const UNKNOWN: &[u8] = b"%FSLAX46Y46*%\n%MOMM*%\n%ADD10C,0.65*%\nD11*\nX0Y0D03*\
 
 const DRILL: &[u8] = b"M48\nMETRIC\nT1C0.4\n%\nT1\nX0.0Y0.0\nM30\n";
 
-const OBROUND: &[u8] = b"%FSLAX46Y46*%\n%MOMM*%\n%ADD10O,2.75X0.75*%\nD10*\nX1000000Y0D03*\nM02*\n";
-
-const SHORT: &[u8] = b"%FSLAX46Y46*%\n%MOMM*%\n%ADD10O,2.74X0.75*%\nD10*\nX1000000Y0D03*\nM02*\n";
-
 const TWO: &[u8] =
     b"%FSLAX46Y46*%\n%MOMM*%\n%ADD10C,0.75*%\nD10*\nX0Y0D03*\nX2000000Y0D03*\nM02*\n";
 
 const SLOT: &[u8] = b"M48\nMETRIC\nT1C0.5\n%\nT1\nX0.0Y0.0G85X2.0Y0.0\nM30\n";
-
-const OBLIQUE: &[u8] = b"M48\nMETRIC\nT1C0.5\n%\nT1\nX0.0Y5.0G85X2.0Y6.0\nM30\n";
 
 /// The first line of a report in a profile.
 fn first_line(profile: Profile) -> &'static str {
@@ -79,6 +73,11 @@ const FAULT: Fault = Fault {
     reason: Reason::BadSpan,
 };
 
+/// This span is said of a file, and nothing of its coordinates.
+fn said(span: Option<Span>) -> Said {
+    Said { span, format: None }
+}
+
 fn file<'a>(row: FileRow<'a>) -> File<'a> {
     let (role, name, span, bytes) = row;
     let span = match span {
@@ -88,7 +87,7 @@ fn file<'a>(row: FileRow<'a>) -> File<'a> {
     File {
         role,
         name,
-        span,
+        said: said(span),
         bytes,
     }
 }
@@ -188,7 +187,7 @@ fn is_report_on(
 
 /// Whether the report in a profile on the files, which are also taken byte by byte, has this text after its first line, written as bytes
 /// and printed by the names of the files.
-pub(crate) fn is_reported(
+fn is_reported(
     alloc: Global,
     profile: Profile,
     rows: &[FileRow],
@@ -199,79 +198,29 @@ pub(crate) fn is_reported(
     is_report_on(alloc, profile, &files, &names, lines)
 }
 
-/// Files, and the report on them after its first line.
-const REPORTS: [(&[FileRow], &str); 12] = [
+/// A profile, files, and the report on them after its first line: a span is printed, and a hole lacks its ring on a layer of it.
+const REPORTS: [(Profile, &[FileRow], &str); 3] = [
     (
+        Profile::Strict,
         &[TOP, PTH],
         "file 1 layer pads=1 other=0 name=top\nfile 2 drill plated=yes round=1 slots=0 name=pth\nPASS\n",
     ),
-    // Plated slots need their ring in one pad, and lie along an axis.
     (
-        &[
-            (Role::Copper, "top", None, OBROUND),
-            (Role::Plated, "pth", None, SLOT),
-        ],
-        "file 1 layer pads=1 other=0 name=top\nfile 2 drill plated=yes round=0 slots=1 name=pth\nPASS\n",
+        Profile::Wide,
+        &[TOP, PTH],
+        "file 1 layer pads=1 other=0 contours=0 name=top\nfile 2 drill plated=yes round=1 slots=0 name=pth\nPASS\n",
     ),
     (
-        &[
-            (Role::Copper, "top", None, OBROUND),
-            (Role::Plated, "pth", None, OBLIQUE),
-        ],
-        "file 1 layer pads=1 other=0 name=top\nfile 2 drill plated=yes round=0 slots=1 name=pth\nOBLIQUE layer=1 drill=2 hole=1 x1=0.000000000 y1=5.000000000 x2=2.000000000 y2=6.000000000 diameter=0.500000000\nFINDINGS 1\n",
-    ),
-    (
-        &[
-            (Role::Copper, "top", None, OBROUND),
-            (Role::Unplated, "pth", None, OBLIQUE),
-        ],
-        "file 1 layer pads=1 other=0 name=top\nfile 2 drill plated=no round=0 slots=1 name=pth\nPASS\n",
-    ),
-    (
-        &[
-            (Role::Copper, "top", None, SHORT),
-            (Role::Plated, "pth", None, SLOT),
-        ],
-        "file 1 layer pads=1 other=0 name=top\nfile 2 drill plated=yes round=0 slots=1 name=pth\nRING layer=1 drill=2 hole=1 x1=0.000000000 y1=0.000000000 x2=2.000000000 y2=0.000000000 diameter=0.500000000\nFINDINGS 1\n",
-    ),
-    (
-        &[
-            (Role::Copper, "top", None, TWO),
-            (Role::Plated, "pth", None, SLOT),
-        ],
-        "file 1 layer pads=2 other=0 name=top\nfile 2 drill plated=yes round=0 slots=1 name=pth\nRING layer=1 drill=2 hole=1 x1=0.000000000 y1=0.000000000 x2=2.000000000 y2=0.000000000 diameter=0.500000000\nFINDINGS 1\n",
-    ),
-    // A span is printed, and names the layers that need a ring; a hole lacks it on the second.
-    (
-        &[TOP, BOTTOM, (Role::Plated, "pth", Some((1, 1)), DRILL)],
-        "file 1 layer pads=1 other=0 name=top\nfile 2 layer pads=1 other=0 name=bot\nfile 3 drill plated=yes round=1 slots=0 span=1-1 name=pth\nPASS\n",
-    ),
-    (
+        Profile::Strict,
         &[TOP, BOTTOM, (Role::Plated, "pth", Some((2, 2)), DRILL)],
         "file 1 layer pads=1 other=0 name=top\nfile 2 layer pads=1 other=0 name=bot\nfile 3 drill plated=yes round=1 slots=0 span=2-2 name=pth\nRING layer=2 drill=3 hole=1 x=0.000000000 y=0.000000000 diameter=0.400000000\nFINDINGS 1\n",
-    ),
-    (
-        &[TOP, BOTTOM, (Role::Plated, "pth", Some((1, 2)), DRILL)],
-        "file 1 layer pads=1 other=0 name=top\nfile 2 layer pads=1 other=0 name=bot\nfile 3 drill plated=yes round=1 slots=0 span=1-2 name=pth\nRING layer=2 drill=3 hole=1 x=0.000000000 y=0.000000000 diameter=0.400000000\nFINDINGS 1\n",
-    ),
-    (
-        &[TOP, BOTTOM, PTH],
-        "file 1 layer pads=1 other=0 name=top\nfile 2 layer pads=1 other=0 name=bot\nfile 3 drill plated=yes round=1 slots=0 name=pth\nRING layer=2 drill=3 hole=1 x=0.000000000 y=0.000000000 diameter=0.400000000\nFINDINGS 1\n",
-    ),
-    (
-        &[TOP, BOTTOM, (Role::Unplated, "pth", Some((1, 2)), DRILL)],
-        "file 1 layer pads=1 other=0 name=top\nfile 2 layer pads=1 other=0 name=bot\nfile 3 drill plated=no round=1 slots=0 span=1-2 name=pth\nPASS\n",
-    ),
-    (
-        &[TOP, BOTTOM, (Role::Unplated, "pth", None, DRILL)],
-        "file 1 layer pads=1 other=0 name=top\nfile 2 layer pads=1 other=0 name=bot\nfile 3 drill plated=no round=1 slots=0 name=pth\nPASS\n",
     ),
 ];
 
 #[test]
 fn reports_are_printed(rt: HostRuntime) {
-    for &(rows, lines) in &REPORTS {
-        let reported = is_reported(rt.alloc(), Profile::Strict, rows, lines);
+    for &(profile, rows, lines) in &REPORTS {
+        let reported = is_reported(rt.alloc(), profile, rows, lines);
         assert!(rt; reported == Ok(true), "{lines}");
     }
 }
@@ -301,13 +250,13 @@ fn report_of_pieces<'a>(
         PiecedFile {
             role: Role::Copper,
             name: "top",
-            span: None,
+            said: said(None),
             pieces: top,
         },
         PiecedFile {
             role: Role::Plated,
             name: "pth",
-            span: None,
+            said: said(None),
             pieces: pth,
         },
     ];
@@ -351,7 +300,7 @@ fn pieces_give_the_report_of_the_whole(rt: HostRuntime) {
 
 /// Takes a file byte by byte.
 fn take_in_bytes(reader: &mut PackageReader, index: usize, file: &File) -> Result<(), AllocError> {
-    let mut open = reader.begin(index, file.role, file.span);
+    let mut open = reader.begin(index, file.role, file.said);
     for piece in file.bytes.chunks(1) {
         open.take(piece)?;
     }
@@ -379,7 +328,7 @@ fn check_in_bytes(
     layer: usize,
     file: &File,
 ) -> Result<(), AllocError> {
-    let mut open = check.begin(index, layer, file.span);
+    let mut open = check.begin(index, layer, file.said);
     for piece in file.bytes.chunks(1) {
         check.take_piece(&mut open, piece)?;
     }
@@ -633,9 +582,9 @@ fn a_board_has_the_findings_of_its_report(rt: HostRuntime) {
 /// Takes a layer in two pieces, a drill file, and a layer in one piece, in another order than theirs.
 fn take_three(reader: &mut PackageReader) -> Result<(), AllocError> {
     let (start, end) = TWO.split_at(50);
-    reader.take(1, Role::Plated, None, &[DRILL])?;
-    reader.take(2, Role::Copper, None, &[TWO])?;
-    reader.take(0, Role::Copper, None, &[start, end])
+    reader.take(1, Role::Plated, said(None), &[DRILL])?;
+    reader.take(2, Role::Copper, said(None), &[TWO])?;
+    reader.take(0, Role::Copper, said(None), &[start, end])
 }
 
 const LAYER_OF_TWO: FileSum = FileSum::Layer {
@@ -689,8 +638,8 @@ fn a_reader_gives_the_flashes_of_copper(rt: HostRuntime) {
 
 /// Takes a layer that is a drill file, and after it a layer with a span.
 fn take_refused(reader: &mut PackageReader) -> Result<(), AllocError> {
-    reader.take(1, Role::Copper, None, &[DRILL])?;
-    reader.take(0, Role::Copper, Span::new(1, 1), &[TWO])
+    reader.take(1, Role::Copper, said(None), &[DRILL])?;
+    reader.take(0, Role::Copper, said(Span::new(1, 1)), &[TWO])
 }
 
 /// Whether such a package is refused for the layer with a span.

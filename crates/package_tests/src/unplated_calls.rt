@@ -1,6 +1,6 @@
 //! Packages whose drill file says that holes are plated, where its role says that none is.
 
-use crate::package_check_calls::{FileRow, contradicted_in, fault_in, is_reported};
+use crate::package_check_calls::{FileRow, contradicted_in, fault_in};
 use grid_units::{Fault, Profile, Reason};
 use package_check::{PackageFault, Role};
 
@@ -24,50 +24,6 @@ const UNPLATED_TOOL: &[u8] = b"M48\nMETRIC\n;TYPE=NON_PLATED\nT1C0.4\n%\nT1\nX0.
 const UNPLATED_FILE: &[u8] =
     b"M48\n; #@! TF.FileFunction,NonPlated,1,2,NPTH\nMETRIC\nT1C0.4\n%\nT1\nX0.0Y0.0\nM30\n";
 
-/// Drill files that say that holes are plated, and the place and the byte of the comment.
-const PLATED: [(&[u8], u64, u64); 4] = [
-    (PLATED_TOOL, 3, 11),
-    (
-        b"M48\nMETRIC\n; #@! TA.AperFunction,Plated,PTH,ComponentDrill\nT1C0.4\n%\nT1\nX0.0Y0.0\nM30\n",
-        3,
-        11,
-    ),
-    (PLATED_FILE, 2, 4),
-    (
-        b"M48\nMETRIC\nT1C0.4\n%\nT1\n;TYPE=PLATED\nX0.0Y0.0\nM30\n",
-        6,
-        23,
-    ),
-];
-
-#[test]
-fn the_wide_profile_refuses_them(rt: HostRuntime) {
-    for &(bytes, place, byte) in &PLATED {
-        let fault = Fault {
-            place,
-            byte,
-            reason: Reason::PlatingConflict,
-        };
-        let rows = [TOP, (Role::Unplated, "npth", None, bytes)];
-        let refusal = fault_in(rt.alloc(), Profile::Wide, &rows);
-        assert!(rt;
-            refusal == Ok(Some(PackageFault::File { index: 1, fault })),
-            "{place}"
-        );
-    }
-}
-
-#[test]
-fn the_strict_profile_goes_by_the_role(rt: HostRuntime) {
-    let lines =
-        "file 1 layer pads=1 other=0 name=top\nfile 2 drill plated=no round=1 slots=0 name=npth\nPASS\n";
-    for &(bytes, place, _) in &PLATED {
-        let rows = [TOP, (Role::Unplated, "npth", None, bytes)];
-        let reported = is_reported(rt.alloc(), Profile::Strict, &rows, lines);
-        assert!(rt; reported == Ok(true), "{place}");
-    }
-}
-
 /// Files, their role, and how many of them have comments that contradict it: none or one.
 const CONTRADICTIONS: [(Profile, Role, &[u8], usize); 6] = [
     (Profile::Strict, Role::Unplated, PLATED_TOOL, 1),
@@ -87,43 +43,18 @@ fn contradicted_roles_are_counted(rt: HostRuntime) {
     }
 }
 
-/// With the role `plated` nothing is contradicted: the hole lacks its ring.
+/// A copper file and how the wide profile refuses it with an unplated file that says that holes are plated: by the first file that is refused.
 #[test]
-fn plated_files_are_not_asked(rt: HostRuntime) {
-    let lines =
-        "file 1 layer pads=1 other=0 contours=0 name=top\nfile 2 drill plated=yes round=1 slots=0 name=pth\nRING layer=1 drill=2 hole=1 x=0.000000000 y=0.000000000 diameter=0.400000000\nFINDINGS 1\n";
-    for &(bytes, place, _) in &PLATED {
-        let rows = [TOP, (Role::Plated, "pth", None, bytes)];
-        let reported = is_reported(rt.alloc(), Profile::Wide, &rows, lines);
-        assert!(rt; reported == Ok(true), "{place}");
-    }
-}
-
-/// Unplated files that contradict nothing.
-const OTHERS: [&[u8]; 3] = [
-    UNPLATED_FILE,
-    UNPLATED_TOOL,
-    b"M48\n; #@! TF.FileFunction,MixedPlating,1,2\nMETRIC\nT1C0.4\n%\nT1\nX0.0Y0.0\nM30\n",
-];
-
-#[test]
-fn other_unplated_files_pass(rt: HostRuntime) {
-    let lines =
-        "file 1 layer pads=1 other=0 contours=0 name=top\nfile 2 drill plated=no round=1 slots=0 name=npth\nPASS\n";
-    for &bytes in &OTHERS {
-        let rows = [TOP, (Role::Unplated, "npth", None, bytes)];
-        let reported = is_reported(rt.alloc(), Profile::Wide, &rows, lines);
-        assert!(rt; reported == Ok(true));
-    }
-}
-
-/// The first file that is refused is the answer.
-#[test]
-fn an_earlier_file_is_refused_first(rt: HostRuntime) {
-    let rows = [
-        (Role::Copper, "top", None, b"X".as_slice()),
-        (Role::Unplated, "npth", None, PLATED[0].0),
-    ];
-    let refusal = fault_in(rt.alloc(), Profile::Wide, &rows);
+fn the_first_file_is_refused(rt: HostRuntime) {
+    let fault = Fault {
+        place: 3,
+        byte: 11,
+        reason: Reason::PlatingConflict,
+    };
+    let drill = (Role::Unplated, "npth", None, PLATED_TOOL);
+    let refusal = fault_in(rt.alloc(), Profile::Wide, &[TOP, drill]);
+    assert!(rt; refusal == Ok(Some(PackageFault::File { index: 1, fault })));
+    let wrong = (Role::Copper, "top", None, b"X".as_slice());
+    let refusal = fault_in(rt.alloc(), Profile::Wide, &[wrong, drill]);
     assert!(rt; matches!(refusal, Ok(Some(PackageFault::File { index: 0, .. }))));
 }

@@ -1,15 +1,11 @@
 -- The markers of findings in the text of a picture.
-use Rattle.report_page.proofs.Common.{◌≡◌, ◌∙◌, ◌<◌, ◌+◌, ◌++◌, ◌==◌, ℕ, zero, suc, Bool, true, not, false, List, [], ◌∷◌, Some, length, get_or, codes, decimal, refl, sym, ap, ap₂, subst, append_assoc, arith, All, AllZip, Contains, enumerate_from, filter, flat_map, get_or_default, IsPage, IsPanel, declaration, svg_text, after_panels, before_panels, text_of_panel, EachRowHasItsMarker, marker_start}
-use Rattle.std.specs.Prelude.{slice_get, if◌then◌else◌}
+use Rattle.report_page.proofs.Common.{◌≡◌, ◌∙◌, ◌<◌, ◌+◌, ◌++◌, ◌==◌, ℕ, zero, suc, Bool, true, not, false, List, [], ◌∷◌, Some, length, get_or, codes, decimal, refl, sym, ap, ap₂, subst, append_assoc, arith, All, AllZip, Contains, enumerate_from, filter, flat_map, get_or_default, IsPage, IsPanel, declaration, svg_text, after_panels, before_panels, text_of_panel, EachRowHasItsMarker, marker_start, slice_get, if◌then◌else◌, flat_map-cons, get_or-enumerate_from, length-enumerate_from, GridHole, GridRules}
 use Rattle.std.specs.Str.Iter.{HasSubslice}
 use Rattle.std.proofs.lemmas.Bool.Decides.{nat_tests}
-use Rattle.std.proofs.lemmas.List.Concat.{flat_map-cons}
 use Rattle.std.proofs.lemmas.List.Elements.{All-append}
 use Rattle.std.proofs.lemmas.List.Filters.{length-filter_both}
-use Rattle.std.proofs.lemmas.List.FromFn.{get_or-enumerate_from, length-enumerate_from}
 use Rattle.std.proofs.lemmas.List.Prefix.{front_rest}
 use Rattle.std.proofs.lemmas.Slice.Zip.{AllZip-long}
-use Rattle.grid_units.specs.Holes.{GridHole, GridRules}
 use Rattle.grid_units.proofs.ListLemmas.{flat_map_at}
 use Rattle.ring_rules.specs.declared.finding.Drilled.{Drilled}
 use Rattle.ring_rules.specs.declared.finding.Finding.{Finding}

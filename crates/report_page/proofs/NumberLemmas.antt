@@ -1,9 +1,7 @@
 -- The numbers of the rows.
-use Rattle.report_page.proofs.Common.{◌≡◌, ◌∙◌, ◌<◌, ◌+◌, ◌-◌, ◌++◌, ℕ, zero, suc, inl, inr, List, [], ◌∷◌, length, map, get_or, arith, enumerate_from, get_or_append_left, get_or-append_right, length-append, length-map, NumbersEachOnce, row_numbers}
+use Rattle.report_page.proofs.Common.{◌≡◌, ◌∙◌, ◌<◌, ◌+◌, ◌-◌, ◌++◌, ℕ, zero, suc, inl, inr, List, [], ◌∷◌, length, map, get_or, arith, enumerate_from, get_or_append_left, get_or-append_right, length-append, length-map, NumbersEachOnce, row_numbers, length-enumerate_from, number_of}
 use Rattle.std.proofs.lemmas.Bool.{cases_lt}
-use Rattle.std.proofs.lemmas.List.FromFn.{length-enumerate_from}
 use Rattle.report.specs.declared.BoardReport.{BoardReport}
-use Rattle.print_text.specs.Texts.{number_of}
 
 -- the numbers of some findings, of which the first has this position
 abbrev numbers : {X : Type 0} → ℕ → List X → List ℕ

@@ -1,12 +1,7 @@
 -- One more row of the table, and one more file.
-use Rattle.report_page.proofs.Common.{◌≡◌, ◌<◌, ◌+◌, ◌++◌, ℕ, List, [], ◌∷◌, Option, length, take, get_or, refl, ap, ◌∙◌, arith, Bor, enumerate_from, flat_map, append-nil, LayerHead, RingLack, marks_more, Profile, FileSum, file_items, file_words, gap_row, gap_rows, ring_row, ring_rows}
+use Rattle.report_page.proofs.Common.{◌≡◌, ◌<◌, ◌+◌, ◌++◌, ℕ, List, [], ◌∷◌, Option, length, take, get_or, refl, ap, ◌∙◌, arith, Bor, enumerate_from, flat_map, append-nil, LayerHead, RingLack, marks_more, Profile, FileSum, file_items, file_words, gap_row, gap_rows, ring_row, ring_rows, flat_map-append, flat_map-cons, GridRules, GapLack, number_of, escaped_name}
 use Rattle.std.specs.Prelude.{◌-◌}
-use Rattle.std.proofs.lemmas.List.Concat.{flat_map-append, flat_map-cons}
-use Rattle.grid_units.specs.Holes.{GridRules}
 use Rattle.report.specs.Acceptances.{acceptance_at}
-use Rattle.report.specs.declared.GapLack.{GapLack}
-use Rattle.print_text.specs.Texts.{number_of}
-use Rattle.picture.specs.Escapes.{escaped_name}
 use Rattle.grid_units.specs.HoleWords.{name_of}
 
 -- what one more element gives, by its position

@@ -1,6 +1,7 @@
 //! Files of waivers, and findings with the figures of the worked examples. What waivers do for a report is in the data of `worked_examples`.
 
 use crate::rows::{CauseRow, Form, GapRow, HoleRow, ReportRow, report_of};
+use grid_units::Reason::*;
 use grid_units::{Fail, Profile, Reason};
 use manifest::Name;
 use manifest::rows::read_records;
@@ -72,77 +73,73 @@ fn waivers_are_read_in_order(rt: HostRuntime) {
 
 /// Files that break a rule, with the number of the record and the reason.
 const REFUSED: [(&[u8], u64, Reason); 20] = [
-    (b"", 1, Reason::BadManifest),
-    (b"\xEF\xBB\xBF", 1, Reason::BadManifest),
-    (b"kind,layer,hole,and,has\n", 1, Reason::BadManifest),
-    (b"kind,layer,hole,and,has,why,\n", 1, Reason::BadManifest),
-    (b"kind,layer,hole,has,and,why\n", 1, Reason::BadManifest),
-    (b"Kind,layer,hole,and,has,why\n", 1, Reason::BadManifest),
-    (b"ring,top,h,,none,seen\n", 1, Reason::BadManifest),
+    (b"", 1, BadManifest),
+    (b"\xEF\xBB\xBF", 1, BadManifest),
+    (b"kind,layer,hole,and,has\n", 1, BadManifest),
+    (b"kind,layer,hole,and,has,why,\n", 1, BadManifest),
+    (b"kind,layer,hole,has,and,why\n", 1, BadManifest),
+    (b"Kind,layer,hole,and,has,why\n", 1, BadManifest),
+    (b"ring,top,h,,none,seen\n", 1, BadManifest),
     (
         b"kind,layer,hole,and,has,why\nring,top,h,,none\n",
         2,
-        Reason::BadManifest,
+        BadManifest,
     ),
     (
         b"kind,layer,hole,and,has,why\nring,top,h,,none,seen,\n",
         2,
-        Reason::BadManifest,
+        BadManifest,
     ),
-    (
-        b"kind,layer,hole,and,has,why\n\"\"\n",
-        2,
-        Reason::BadManifest,
-    ),
+    (b"kind,layer,hole,and,has,why\n\"\"\n", 2, BadManifest),
     (
         b"kind,layer,hole,and,has,why\nring,top,h,,none,see\tn\n",
         2,
-        Reason::BadManifest,
+        BadManifest,
     ),
     (
         b"kind,layer,hole,and,has,why\nring,top,h,,none,\"see\nn\"\n",
         2,
-        Reason::BadManifest,
+        BadManifest,
     ),
     (
         b"kind,layer,hole,and,has,why\nring,top,h\x7F,,none,seen\n",
         2,
-        Reason::BadManifest,
+        BadManifest,
     ),
     (
         b"kind,layer,hole,and,has,why\nhole,\x01,h,,none,\n",
         2,
-        Reason::BadManifest,
+        BadManifest,
     ),
     (
         b"kind,layer,hole,and,has,why\nhole,top,h,,none,\n",
         2,
-        Reason::BadRole,
+        BadRole,
     ),
     (
         b"kind,layer,hole,and,has,why\nRing,top,h,,none,seen\n",
         2,
-        Reason::BadRole,
+        BadRole,
     ),
     (
         b"kind,layer,hole,and,has,why\n,top,h,,none,seen\n",
         2,
-        Reason::BadRole,
+        BadRole,
     ),
     (
         b"kind,layer,hole,and,has,why\nring,top,h,,none,\n",
         2,
-        Reason::EmptyName,
+        EmptyName,
     ),
     (
         b"kind,layer,hole,and,has,why\ngap,,h,i,0.1,\"\"\n",
         2,
-        Reason::EmptyName,
+        EmptyName,
     ),
     (
         b"kind,layer,hole,and,has,why\nring,top,h\xFF,,none,seen\n",
         2,
-        Reason::BadManifest,
+        BadManifest,
     ),
 ];
 
@@ -170,7 +167,7 @@ fn are_letters_read(rt: HostRuntime, letter: &str, count: usize, are_read: bool)
     let answer = if are_read {
         None
     } else {
-        Some((3, 0, Reason::TooLong))
+        Some((3, 0, TooLong))
     };
     match with_letters(rt, letter, count) {
         Ok(text) => refusal(rt, text.as_bytes()) == answer,
@@ -225,7 +222,7 @@ fn are_read_up_to(rt: HostRuntime, wrong: usize, place: Option<u64>, count: Opti
 /// Whether a record is refused for its empty reason, or none.
 fn refuses_name(rt: HostRuntime, text: &[u8], place: Option<u64>) -> bool {
     match (refusal(rt, text), place) {
-        (Some(found), Some(place)) => found == (place, 0, Reason::EmptyName),
+        (Some(found), Some(place)) => found == (place, 0, EmptyName),
         (found, wanted) => found.is_none() && wanted.is_none(),
     }
 }

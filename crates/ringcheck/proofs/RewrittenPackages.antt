@@ -1,8 +1,8 @@
 -- Rewritten files say the same.
-use Rattle.ringcheck.proofs.Common.{◌≡◌, ◌↔◌, ℕ, Bool, true, false, List, [], ◌∷◌, Option, Result, Ok, Err, refl, sym, ap, subst, ◌∙◌, inl, inr, false≢true, list_any, Profile, Strict, Wide, FileView, ReadsBytes, ReadsUnlessBadSpan, ReadsCopper, ReadsHoles, Setting, is_bad_span}
-use Rattle.grid_units.specs.Spans.{LayerSpan}
+use Rattle.ringcheck.proofs.Common.{◌≡◌, ◌↔◌, ℕ, Bool, true, false, List, [], ◌∷◌, None, Option, Result, Ok, Err, refl, sym, ap, subst, ◌∙◌, inl, inr, false≢true, list_any, Profile, Strict, Wide, FileView, ReadsBytes, ReadsUnlessBadSpan, ReadsCopper, ReadsHoles, Setting, is_bad_span}
 use Rattle.grid_units.specs.declared.fault.Fault.{Fault}
 use Rattle.gerber_text.specs.Writing.{without_places}
+use Rattle.drill_lines.specs.declared.command.CoordinateFormat.{CoordinateFormat}
 use Rattle.drill_lines.specs.declared.command.DrillCommand.{DrillCommand}
 use Rattle.drill_text.specs.MixedLaws.{KindsReadTheSame, UncontradictedIsLegal}
 use Rattle.drill_text.specs.Plating.{calls_plated}
@@ -13,6 +13,7 @@ use Rattle.layer_image.specs.Layers as layers
 use Rattle.layer_image.specs.Layers.{LayerImage}
 use Rattle.manifest.specs.declared.Role.{Role}
 use Rattle.manifest.specs.declared.Role.TheVariants as role
+use Rattle.manifest.specs.declared.Said.{Said}
 use Rattle.ringcheck_files.specs.declared.rewrite.Kind.TheVariants as kind
 use Rattle.ringcheck_files.specs.Rewriting.{HaveSameCommands, KeepsCommands}
 use Rattle.package_check.specs.declared.contents.Content.{Content}
@@ -58,52 +59,53 @@ module _ (layer_once : layers.ReadingIsUniqueIn) (layer_wide : (text : List ℕ)
   same_commands : (s : List ℕ) (a b : List DrillCommand) → IsDrillText s a → IsDrillText s b → a ≡ b
   same_commands s a b h k = let e : (let x : Result (List DrillCommand) Fault = Ok a in let y : Result (List DrillCommand) Fault = Ok b in x ≡ y) = drill_once s (Ok a) (Ok b) ((texts s a).1 h) ((texts s b).1 k) in cc
 
-  -- where the role of a file of the wide profile calls it unplated, none of its commands says that holes are plated
-  IsSilent : Profile → Bool → List DrillCommand → Type 0
-  IsSilent profile plated commands = profile ≡ Wide → plated ≡ false → list_any calls_plated commands ≡ false
+  -- nothing is said of the coordinates of a file of the wide profile, and where its role calls it unplated, none of its commands says that holes are plated
+  IsSilent : Profile → Option CoordinateFormat → Bool → List DrillCommand → Type 0
+  IsSilent profile format plated commands = profile ≡ Wide → (format ≡ None) × (plated ≡ false → list_any calls_plated commands ≡ false)
 
   -- a drill text of the strict profile is the same in the wide one
-  in_wide : (plated : Bool) (s : List ℕ) (a : List DrillCommand) → IsSilent Wide plated a → IsDrillText s a → ReadsBy (drill_kind Wide plated) s (Ok a)
+  in_wide : (format : Option CoordinateFormat) (plated : Bool) (s : List ℕ) (a : List DrillCommand) → IsSilent Wide format plated a → IsDrillText s a → ReadsBy (drill_kind Wide format plated) s (Ok a)
   unfolding IsSilent
-  in_wide true s a silent h = drill_wide s a ((texts s a).1 h)
-  in_wide false s a silent h = (same_in (unplated_in Wide) s a).1 (drill_wide s a ((texts s a).1 h), (legal a).1 (silent refl refl))
+  in_wide format true s a silent h = subst (λ (f : Option CoordinateFormat). ReadsBy (drill_kind Wide f true) s (Ok a)) (sym (silent refl).0) (drill_wide s a ((texts s a).1 h))
+  in_wide format false s a silent h =
+      subst (λ (f : Option CoordinateFormat). ReadsBy (drill_kind Wide f false) s (Ok a)) (sym (silent refl).0) ((same_in (unplated_in Wide) s a).1 (drill_wide s a ((texts s a).1 h), (legal a).1 ((silent refl).1 refl)))
 
-  same_wide : (plated : Bool) (s : List ℕ) (a b : List DrillCommand) → IsSilent Wide plated b → ReadsBy (drill_kind Wide plated) s (Ok a) → IsDrillText s b → a ≡ b
-  same_wide plated s a b silent h k = let e : (let x : Result (List DrillCommand) Fault = Ok a in let y : Result (List DrillCommand) Fault = Ok b in x ≡ y) = kinds_once (drill_kind Wide plated) s (Ok a) (Ok b) h (in_wide plated s b silent k) in cc
+  same_wide : (format : Option CoordinateFormat) (plated : Bool) (s : List ℕ) (a b : List DrillCommand) → IsSilent Wide format plated b → ReadsBy (drill_kind Wide format plated) s (Ok a) → IsDrillText s b → a ≡ b
+  same_wide format plated s a b silent h k = let e : (let x : Result (List DrillCommand) Fault = Ok a in let y : Result (List DrillCommand) Fault = Ok b in x ≡ y) = kinds_once (drill_kind Wide format plated) s (Ok a) (Ok b) h (in_wide format plated s b silent k) in cc
 
-  no_drill_fault : (profile : Profile) (plated : Bool) (s : List ℕ) (a : List DrillCommand) (f : Fault) → IsSilent profile plated a → IsDrillText s a → ReadsDrill profile plated s (Err f) → ⊥
-  no_drill_fault Strict plated s a f silent h k = let e : (let x : Result (List DrillCommand) Fault = Ok a in let y : Result (List DrillCommand) Fault = Err f in x ≡ y) = drill_once s (Ok a) (Err f) ((texts s a).1 h) k in cc
-  no_drill_fault Wide plated s a f silent h k = let e : (let x : Result (List DrillCommand) Fault = Ok a in let y : Result (List DrillCommand) Fault = Err f in x ≡ y) = kinds_once (drill_kind Wide plated) s (Ok a) (Err f) (in_wide plated s a silent h) k in cc
+  no_drill_fault : (profile : Profile) (format : Option CoordinateFormat) (plated : Bool) (s : List ℕ) (a : List DrillCommand) (f : Fault) → IsSilent profile format plated a → IsDrillText s a → ReadsDrill profile format plated s (Err f) → ⊥
+  no_drill_fault Strict format plated s a f silent h k = let e : (let x : Result (List DrillCommand) Fault = Ok a in let y : Result (List DrillCommand) Fault = Err f in x ≡ y) = drill_once s (Ok a) (Err f) ((texts s a).1 h) k in cc
+  no_drill_fault Wide format plated s a f silent h k = let e : (let x : Result (List DrillCommand) Fault = Ok a in let y : Result (List DrillCommand) Fault = Err f in x ≡ y) = kinds_once (drill_kind Wide format plated) s (Ok a) (Err f) (in_wide format plated s a silent h) k in cc
 
-  drill_same : (profile : Profile) (plated : Bool) (s t : List ℕ) (h : HaveSameCommands kind.Drill s t) → IsSilent profile plated h.0 → (drill : DrillView) → ReadsDrill profile plated s (Ok drill) → ReadsDrill profile plated t (Ok drill)
-  drill_same Strict plated s t h silent drill k = (h.0, h.2, k.2 ∙ ap (drill_view plated) (same_commands s k.0 h.0 k.1 h.1))
-  drill_same Wide plated s t h silent drill k = (h.0, in_wide plated t h.0 silent h.2, k.2 ∙ ap (drill_view plated) (same_wide plated s k.0 h.0 silent k.1 h.1))
+  drill_same : (profile : Profile) (format : Option CoordinateFormat) (plated : Bool) (s t : List ℕ) (h : HaveSameCommands kind.Drill s t) → IsSilent profile format plated h.0 → (drill : DrillView) → ReadsDrill profile format plated s (Ok drill) → ReadsDrill profile format plated t (Ok drill)
+  drill_same Strict format plated s t h silent drill k = (h.0, h.2, k.2 ∙ ap (drill_view plated) (same_commands s k.0 h.0 k.1 h.1))
+  drill_same Wide format plated s t h silent drill k = (h.0, in_wide format plated t h.0 silent h.2, k.2 ∙ ap (drill_view plated) (same_wide format plated s k.0 h.0 silent k.1 h.1))
 
-  holes_same : (profile : Profile) (plated : Bool) (span : Option LayerSpan) (s t : List ℕ) (h : HaveSameCommands kind.Drill s t) → IsSilent profile plated h.0 → (answer : Result Content Fault) → ReadsHoles profile plated span s answer → ReadsHoles profile plated span t answer
-  holes_same profile plated span s t h silent (Ok (content.Layer image)) k = absurd k
-  holes_same profile plated span s t h silent (Ok (content.Mixed through holes)) k = absurd k
-  holes_same profile plated span s t h silent (Ok (content.Drill has through drill)) k = (drill_same profile plated s t h silent drill k.0, k.1, k.2)
-  holes_same profile plated span s t h silent (Err f) k = absurd (no_drill_fault profile plated s h.0 f silent h.1 k)
+  holes_same : (profile : Profile) (plated : Bool) (said : Said) (s t : List ℕ) (h : HaveSameCommands kind.Drill s t) → IsSilent profile said.format plated h.0 → (answer : Result Content Fault) → ReadsHoles profile plated said s answer → ReadsHoles profile plated said t answer
+  holes_same profile plated said s t h silent (Ok (content.Layer image)) k = absurd k
+  holes_same profile plated said s t h silent (Ok (content.Mixed through holes)) k = absurd k
+  holes_same profile plated said s t h silent (Ok (content.Drill has through drill)) k = (drill_same profile said.format plated s t h silent drill k.0, k.1, k.2)
+  holes_same profile plated said s t h silent (Err f) k = absurd (no_drill_fault profile said.format plated s h.0 f silent h.1 k)
 
   -- what is asked of a file that is rewritten
-  Uncontradicted : Role → Profile → List ℕ → Type 0
-  Uncontradicted r profile s = profile ≡ Wide → r ≡ role.Unplated → (commands : List DrillCommand) → IsDrillText s commands → list_any calls_plated commands ≡ false
+  Uncontradicted : Role → Profile → Option CoordinateFormat → List ℕ → Type 0
+  Uncontradicted r profile format s = profile ≡ Wide → (format ≡ None) × (r ≡ role.Unplated → (commands : List DrillCommand) → IsDrillText s commands → list_any calls_plated commands ≡ false)
 
-  same_bytes : (r : Role) (name : List ℕ) (span : Option LayerSpan) (n : Setting) (s t : List ℕ) → is_mixed r ≡ false → Uncontradicted r n.profile s → HaveSameCommands (kind_of r) s t → (answer : Result Content Fault)
-      → ReadsBytes (record { role = r; name = name; span = span; bytes = s; setting = n }) answer ↔ ReadsBytes (record { role = r; name = name; span = span; bytes = t; setting = n }) answer
+  same_bytes : (r : Role) (name : List ℕ) (said : Said) (n : Setting) (s t : List ℕ) → is_mixed r ≡ false → Uncontradicted r n.profile said.format s → HaveSameCommands (kind_of r) s t → (answer : Result Content Fault)
+      → ReadsBytes (record { role = r; name = name; said = said; bytes = s; setting = n }) answer ↔ ReadsBytes (record { role = r; name = name; said = said; bytes = t; setting = n }) answer
   unfolding IsSilent Uncontradicted other_drill
-  same_bytes role.Copper name span n s t other silent h answer = (copper_same n.profile s t h answer, copper_same n.profile t s (other_kind s t h) answer)
-  same_bytes role.Plated name span n s t other silent h answer =
-      let plated : IsSilent n.profile true h.0 = λ wide unplated. absurd (false≢true (sym unplated)) in
-      (holes_same n.profile true span s t h plated answer, holes_same n.profile true span t s (other_drill s t h) plated answer)
-  same_bytes role.Unplated name span n s t other silent h answer =
-      let unplated : IsSilent n.profile false h.0 = λ wide is. silent wide refl h.0 h.1 in
-      (holes_same n.profile false span s t h unplated answer, holes_same n.profile false span t s (other_drill s t h) unplated answer)
-  same_bytes role.Mixed name span n s t other silent h answer = absurd cc
+  same_bytes role.Copper name said n s t other silent h answer = (copper_same n.profile s t h answer, copper_same n.profile t s (other_kind s t h) answer)
+  same_bytes role.Plated name said n s t other silent h answer =
+      let plated : IsSilent n.profile said.format true h.0 = λ wide. ((silent wide).0, λ unplated. absurd (false≢true (sym unplated))) in
+      (holes_same n.profile true said s t h plated answer, holes_same n.profile true said t s (other_drill s t h) plated answer)
+  same_bytes role.Unplated name said n s t other silent h answer =
+      let unplated : IsSilent n.profile said.format false h.0 = λ wide. ((silent wide).0, λ is. (silent wide).1 refl h.0 h.1) in
+      (holes_same n.profile false said s t h unplated answer, holes_same n.profile false said t s (other_drill s t h) unplated answer)
+  same_bytes role.Mixed name said n s t other silent h answer = absurd cc
 
   -- a span that is refused is refused on both sides
-  same_text : (x : FileView) (text : List ℕ) → is_mixed x.role ≡ false → Uncontradicted x.role x.setting.profile x.bytes → HaveSameCommands (kind_of x.role) x.bytes text → ReadAlike x (with_bytes x text)
-  same_text x text other silent h answer = by (is_bad_span x.role x.span x.setting.layers) (same_bytes x.role x.name x.span x.setting x.bytes text other silent h answer)
+  same_text : (x : FileView) (text : List ℕ) → is_mixed x.role ≡ false → Uncontradicted x.role x.setting.profile x.said.format x.bytes → HaveSameCommands (kind_of x.role) x.bytes text → ReadAlike x (with_bytes x text)
+  same_text x text other silent h answer = by (is_bad_span x.role x.said.span x.setting.layers) (same_bytes x.role x.name x.said x.setting x.bytes text other silent h answer)
     where
       by : (t : Bool) → (ReadsBytes x answer ↔ ReadsBytes (with_bytes x text) answer)
           → ReadsUnlessBadSpan t x answer ↔ ReadsUnlessBadSpan t (with_bytes x text) answer

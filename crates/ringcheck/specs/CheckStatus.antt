@@ -29,7 +29,7 @@ abbrev pub file_views_among : Setting → List Entry → List (List ℕ) → Lis
 file_views_among setting [] bytes = []
 file_views_among setting (entry ∷ entries) [] = []
 file_views_among setting (entry ∷ entries) (bytes ∷ rest) =
-    record { role = entry.role; name = entry.name; span = entry.span; bytes = bytes; setting = setting } ∷ file_views_among setting entries rest
+    record { role = entry.role; name = entry.name; said = entry.said; bytes = bytes; setting = setting } ∷ file_views_among setting entries rest
 
 -- what the files of these entries are read in: in this profile, and with as many copper files as the entries name
 abbrev pub setting_in : Profile → List Entry → Setting

@@ -1,5 +1,5 @@
 -- Packages whose files are rewritten.
-use Rattle.std.specs.Prelude.{◌≡◌, ◌⊎◌, ◌↔◌, ℕ, Bool, true, false, List, [], ◌∷◌, Result, Ok, ⊤}
+use Rattle.std.specs.Prelude.{◌≡◌, ◌⊎◌, ◌↔◌, ℕ, Bool, true, false, List, [], ◌∷◌, None, Result, Ok, ⊤}
 use Rattle.grid_units.specs.Holes.{GridRules}
 use Rattle.grid_units.specs.declared.fault.Fault.{Fault}
 use Rattle.grid_units.specs.declared.profile.Profile.TheVariants.{Wide}
@@ -21,7 +21,7 @@ kind_of role.Mixed = kind.Drill
 
 -- a file with these bytes in place of its own
 abbrev pub with_bytes : FileView → List ℕ → FileView
-with_bytes source bytes = record { role = source.role; name = source.name; span = source.span; bytes = bytes; setting = source.setting }
+with_bytes source bytes = record { role = source.role; name = source.name; said = source.said; bytes = bytes; setting = source.setting }
 
 -- whether a role is that of a mixed file
 abbrev pub is_mixed : Role → Bool
@@ -29,9 +29,9 @@ is_mixed role.Mixed = true
 is_mixed _ = false
 
 -- A file is left as it was, or its text is rewritten; a text that is rewritten is one of the strict profile. A mixed file is left as it was, and so is one of the wide profile
--- that contradicts its role: the place where it is refused for what it says of its platings may change.
+-- that contradicts its role, as the place where it is refused for what it says of its platings may change, or of whose coordinates something is said beside its text.
 abbrev pub IsRewritten : FileView → FileView → Type 0
-IsRewritten x y = (y ≡ x) ⊎ ((text : List ℕ) × (is_mixed x.role ≡ false) × (x.setting.profile ≡ Wide → IsUncontradicted x)
+IsRewritten x y = (y ≡ x) ⊎ ((text : List ℕ) × (is_mixed x.role ≡ false) × (x.setting.profile ≡ Wide → (x.said.format ≡ None) × IsUncontradicted x)
     × Rewrites (kind_of x.role) x.bytes (Ok text) × (y ≡ with_bytes x text))
 
 -- two lists of files: of the first any files, all or none, are rewritten in the second

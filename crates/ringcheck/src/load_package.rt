@@ -153,7 +153,7 @@ fn take_file<'a, L: Loader>(
     ensures setting { setting_of reader.new ≡ setting_of reader.old }
     ensures taken { IfOk result (OfTakenFile (L.has loader.old) reader.old reader.new index entry.now (HasRisen (L.failed loader.old) (L.failed loader.new))) }
 {
-    let file = reader.begin(index, entry.role, entry.span);
+    let file = reader.begin(index, entry.role, entry.said);
     let mut sink = FileSink { file };
     match hand_file(alloc, loader, index, entry, &mut sink) {
         Ok(None) => {
@@ -284,7 +284,7 @@ fn check_file<'a, L: Loader>(
     ensures counts { L.failed loader.old ≤ L.failed loader.new }
     ensures taken { is_copper entry.now.role ≡ true → IfOk result (OfCheckedFile (L.has loader.old) check index layer entry.now (HasRisen (L.failed loader.old) (L.failed loader.new))) }
 {
-    let file = check.begin(index, layer, entry.span);
+    let file = check.begin(index, layer, entry.said);
     let mut sink = CheckSink { check, file };
     match hand_file(alloc, loader, index, entry, &mut sink) {
         Ok(None) => {

@@ -36,6 +36,30 @@ pub use Rattle.std.specs.Global.{Vec}
 pub use Rattle.std.specs.Io.KnownBytes.{Appends, Consumes}
 pub use Rattle.std.specs.List.{AllByRecursion, Contains, before_first, find, flat_map, list_all, list_any, prefix_len}
 pub use Rattle.std.specs.Option.{option_map, option_or, option_to_list}
-pub use Rattle.std.specs.Prelude.{codes, count_by, decimal, neg_ℤ, option_and_then, slice_get, take_while}
-pub use Rattle.std.specs.Slice.Iter.{chunks_rest, chunks_size}
+pub use Rattle.std.specs.Prelude.{All, codes, count_by, decimal, neg_ℤ, option_and_then, slice_get, take_while}
+pub use Rattle.std.specs.Slice.Iter.{chunks_rest, chunks_size, iter_rest}
 pub use Rattle.std.specs.Str.{bytes_eq, str_eq_ignore_ascii_case}
+pub use Rattle.drill_lines.specs.Formats.{AreDigitCounts, Digits}
+pub use Rattle.drill_lines.specs.Writing.{IsDec, IsInRange, IsOptionalDec, IsPoint}
+pub use Rattle.drill_text.proofs.RoundTrip.{AreTyped, round_trip, typed_more, typed_none}
+pub use Rattle.drill_text.specs.Outcome.{DrillFile, file_of}
+pub use Rattle.drill_text.specs.Writing.{rewritten_text}
+pub use Rattle.drill_text.specs.declared.platings.PlatingKind.TheVariants.{Stated}
+pub use Rattle.gerber_text.proofs.SpellsTextLemmas.{reads_spells, spells_reads}
+pub use Rattle.gerber_text.specs.Holding.{FailsWithIn, held_entries}
+pub use Rattle.grid_units.proofs.BoolLemmas.{both_true}
+pub use Rattle.grid_units.proofs.ResultLemmas.{bind_ok, both_ok}
+pub use Rattle.grid_units.proofs.Spelled.{below_one}
+pub use Rattle.grid_units.specs.Lists.{IsLegal, last_set}
+pub use Rattle.grid_units.specs.Numbers.{is_digit, is_number_char, parse_decimal, parse_zero_filled}
+pub use Rattle.grid_units.specs.declared.fault.Fail.{Fail}
+pub use Rattle.grid_units.specs.declared.profile.Profile.{Profile}
+pub use Rattle.grid_units.specs.declared.zero_filling.Zeros.{Zeros}
+pub use Rattle.grid_units.specs.declared.zero_filling.Zeros.TheVariants.{Full, Leading, Trailing}
+pub use Rattle.layer_features.specs.Features.{features_of, view_in, wide_features_of}
+pub use Rattle.std.proofs.lemmas.Iterator.{YieldsList-from_map_by, YieldsList-from_slice}
+pub use Rattle.std.proofs.lemmas.Iterator.Consumers.{YieldsList-at, YieldsList-from_copied}
+pub use Rattle.std.proofs.lemmas.Iterator.Search.{find_from_yields_List}
+pub use Rattle.std.proofs.lemmas.List.Elements.{All-from_recursion, All-take, Contains-append_cases, Contains-append_left, Contains-append_right}
+pub use Rattle.std.proofs.lemmas.Option.{IfSome_then}
+pub use Rattle.std.proofs.lemmas.Slice.Eq.{bytes_eq-Decides}

@@ -1,7 +1,5 @@
 -- Each word that has a page is listed, and a search finds a word or a page where there is one.
-use Rattle.ringcheck_files.proofs.Common.{arith, inl, inr, map, ◌≡◌, ◌<◌, ◌-◌, ◌∙◌, ◌⊎◌, ℕ, zero, suc, Bool, true, false, List, [], ◌∷◌, length, get_or, sym, refl, ap, subst, cond, Option, Some, None, IfSome, AllByRecursion, Contains, find, option_map, bytes_eq, length-map, get_or-map, reason_name, reason_number, Reason, EachWordIsListed, IsExplained, all_reasons, all_words, topic_words}
-use Rattle.std.proofs.lemmas.List.Elements.{Contains-append_left, Contains-append_right, Contains-append_cases}
-use Rattle.std.proofs.lemmas.Slice.Eq.{bytes_eq-Decides}
+use Rattle.ringcheck_files.proofs.Common.{arith, inl, inr, map, ◌≡◌, ◌<◌, ◌-◌, ◌∙◌, ◌⊎◌, ℕ, zero, suc, Bool, true, false, List, [], ◌∷◌, length, get_or, sym, refl, ap, subst, cond, Option, Some, None, IfSome, AllByRecursion, Contains, find, option_map, bytes_eq, length-map, get_or-map, reason_name, reason_number, Reason, EachWordIsListed, IsExplained, all_reasons, all_words, topic_words, Contains-append_left, Contains-append_right, Contains-append_cases, bytes_eq-Decides}
 use Rattle.grid_units.specs.declared.fault.Reason.TheVariants as reasons
 
 -- each reason stands in their list at its number, the first of which is 1

@@ -1,7 +1,6 @@
 -- Files that were loaded one by one, by their names.
-use Rattle.ringcheck_files.proofs.Common.{◌≡◌, ◌∙◌, ◌<◌, ◌≤◌, ◌+◌, ◌++◌, ◌&&◌, inl, inr, ℕ, zero, suc, Bool, true, false, cond, List, [], ◌∷◌, length, map, take, get_or, Bor, Option, Some, arith, refl, ap, sym, subst, Appends, slice_get, list_all, false≢true, HasLoaded, HasAllLoaded, IsHeldStatus, IsManifestStatus, IsProposalText, LoadedView, PrintsProposal, HasRisenBy, bytes, unread, folder, long, is_container, are_containers, is_entry_name, count_unread, first_said, loaded_view, is_unread, loaded_file, loaded_files, said_of}
+use Rattle.ringcheck_files.proofs.Common.{◌≡◌, ◌∙◌, ◌<◌, ◌≤◌, ◌+◌, ◌++◌, ◌&&◌, inl, inr, ℕ, zero, suc, Bool, true, false, cond, List, [], ◌∷◌, length, map, take, get_or, Bor, Option, Some, arith, refl, ap, sym, subst, Appends, slice_get, list_all, false≢true, HasLoaded, HasAllLoaded, IsHeldStatus, IsManifestStatus, IsProposalText, LoadedView, PrintsProposal, HasRisenBy, bytes, unread, folder, long, is_container, are_containers, is_entry_name, count_unread, first_said, loaded_view, is_unread, loaded_file, loaded_files, said_of, Profile}
 use Rattle.std.proofs.lemmas.List.Sums.{sum_by_push}
-use Rattle.grid_units.specs.declared.profile.Profile.{Profile}
 use Rattle.manifest.specs.ProposalList.{name_of}
 use Rattle.manifest.specs.declared.model.InputFile.{InputFile}
 use Rattle.ringcheck_files.specs.declared.Status.{Status}

@@ -1,8 +1,6 @@
 -- The page that a search of the pages finds.
-use Rattle.ringcheck_files.proofs.Common.{◌≡◌, ◌≤◌, ◌+◌, ◌++◌, ◌&&◌, ◌↔◌, ◌∙◌, ℕ, codes, leb, leb-true, length, list_all, take, Bool, Bor, true, false≢true, List, IfSome, IsSome, MatchOption, Option, Some, None, [], ◌∷◌, map, refl, sym, ap, subst, find, AllByRecursion, before_first, Contains, option_map, option_or, bytes_eq, str_eq_ignore_ascii_case, IsPageOf, known_word, listed_word, listed_in_any_case, FitsScreen, HasHeading, IsExplained, all_words, is_colon}
+use Rattle.ringcheck_files.proofs.Common.{◌≡◌, ◌≤◌, ◌+◌, ◌++◌, ◌&&◌, ◌↔◌, ◌∙◌, ℕ, codes, leb, leb-true, length, list_all, take, Bool, Bor, true, false≢true, List, IfSome, IsSome, MatchOption, Option, Some, None, [], ◌∷◌, map, refl, sym, ap, subst, find, AllByRecursion, before_first, Contains, option_map, option_or, bytes_eq, str_eq_ignore_ascii_case, IsPageOf, known_word, listed_word, listed_in_any_case, FitsScreen, HasHeading, IsExplained, all_words, is_colon, bytes_eq-Decides, both_true}
 use Rattle.std.specs.Str.Lines.{lines}
-use Rattle.std.proofs.lemmas.Slice.Eq.{bytes_eq-Decides}
-use Rattle.grid_units.proofs.BoolLemmas.{both_true}
 use Rattle.ringcheck_files.specs.declared.pages.TheConstants.{PAGES}
 use Rattle.ringcheck_files.proofs.LookupLemmas.{find_map, found_holds, found_is_listed, listed_is_explained, listed_is_found, word_is_listed}
 

@@ -1,14 +1,9 @@
 -- Texts that are read in pieces, for flashes or holes alone.
-use Rattle.ringcheck_files.proofs.Common.{◌≡◌, ◌∙◌, ℕ, List, [], ◌++◌, Result, Ok, Err, IfOk, ap, refl, subst, append-nil, Vec, Fault, Strict, Wide, Answers, IfFault, ReadsAsIn, ReadsIn, ShowsIn, without_places, ShowsLayerFaultIn, KeptLayer, ReadsKeptIn, LayerImage, ReadsLayerIn, StrictLayers, WidePad, ReadsDrill, ShowsDrill, ShowsLayer, drill_table}
-use Rattle.grid_units.specs.declared.fault.Fail.{Fail}
+use Rattle.ringcheck_files.proofs.Common.{◌≡◌, ◌∙◌, ℕ, List, [], ◌++◌, Result, Ok, Err, IfOk, ap, refl, subst, append-nil, Vec, Fault, Strict, Wide, Answers, IfFault, ReadsAsIn, ReadsIn, ShowsIn, without_places, ShowsLayerFaultIn, KeptLayer, ReadsKeptIn, LayerImage, ReadsLayerIn, StrictLayers, WidePad, ReadsDrill, ShowsDrill, ShowsLayer, drill_table, Fail, Profile, Stated, DrillFile, file_of, features_of, view_in, wide_features_of}
 use Rattle.grid_units.specs.declared.fault.Fail.TheVariants as fails
-use Rattle.grid_units.specs.declared.profile.Profile.{Profile}
 use Rattle.drill_text.specs.declared.kept.Keep.{Keep as DrillKeep}
-use Rattle.drill_text.specs.declared.platings.PlatingKind.TheVariants.{Stated}
-use Rattle.drill_text.specs.Outcome.{DrillFile, file_of}
 use Rattle.drill_text.proofs.SpellsTextLemmas.{reads_drill_text}
 use Rattle.layer_features.specs.declared.keep.Keep.{Keep as LayerKeep}
-use Rattle.layer_features.specs.Features.{features_of, view_in, wide_features_of}
 
 -- ---- layers
 

@@ -1,16 +1,8 @@
 -- The decimals of a drill line lie in the range of their type.
-use Rattle.ringcheck_files.proofs.Common.{◌≡◌, ℕ, ◌+◌, ◌-◌, ◌*◌, ◌^◌, ◌<◌, ◌≤◌, zero, suc, Bool, true, false, cond, not, ◌&&◌, eqb, leb, ltb, List, [], ◌∷◌, length, take, ℤ, pos, unsigned_abs, Ok, Err, refl, sym, ap, ◌∙◌, arith, neg_ℤ, list_all, AllByRecursion, ltb-false, leb-true, eqb-true, length-take, BadNumber, NoZeros, TooManyDigits, TooFine, TooFar, ◌>>=◌}
-use Rattle.std.specs.Prelude.{All}
-use Rattle.std.proofs.lemmas.List.Elements.{All-from_recursion, All-take}
-use Rattle.grid_units.specs.declared.zero_filling.Zeros.{Zeros}
-use Rattle.grid_units.specs.declared.zero_filling.Zeros.TheVariants.{Leading, Trailing, Full}
+use Rattle.ringcheck_files.proofs.Common.{◌≡◌, ℕ, ◌+◌, ◌-◌, ◌*◌, ◌^◌, ◌<◌, ◌≤◌, zero, suc, Bool, true, false, cond, not, ◌&&◌, eqb, leb, ltb, List, [], ◌∷◌, length, take, ℤ, pos, unsigned_abs, Ok, Err, refl, sym, ap, ◌∙◌, arith, neg_ℤ, list_all, AllByRecursion, ltb-false, leb-true, eqb-true, length-take, BadNumber, NoZeros, TooManyDigits, TooFine, TooFar, ◌>>=◌, All, All-from_recursion, All-take, Zeros, Leading, Trailing, Full, bind_ok, both_true, AreDigitCounts, IsDec}
 use Rattle.grid_units.specs.Numbers.{is_digit, is_digits, value, without_sign, is_negative, signed_value, to_units, whole, fraction, is_decimal, fits_eight_decimals, value_without_point, parse_decimal, zeros_to_fill, zero_filled, parse_zero_filled}
-use Rattle.grid_units.proofs.ResultLemmas.{bind_ok}
 use Rattle.grid_units.proofs.DigitLemmas.{to_units_is, filled_lt}
 use Rattle.grid_units.proofs.ZeroFillingLemmas.{filled_is, filled_bound, scaled_is, scaled_bound, wide}
-use Rattle.grid_units.proofs.BoolLemmas.{both_true}
-use Rattle.drill_lines.specs.Formats.{AreDigitCounts}
-use Rattle.drill_lines.specs.Writing.{IsDec}
 
 all_digits_are : (ds : List ℕ) → list_all is_digit ds ≡ true → AllByRecursion (λ b. is_digit b ≡ true) ds
 all_digits_are [] h = tt

@@ -1,7 +1,6 @@
 -- A text is rewritten in one way.
-use Rattle.ringcheck_files.proofs.Common.{◌≡◌, ◌↔◌, ◌⊎◌, ℕ, List, Result, Ok, Err, refl, sym, ap, ◌∙◌, inl, inr, Fault, Strict, canonical_text, without_places, LayerImage, ReadsLayer, ReadingIsUniqueIn, DrillCommand, IsDrillText, RewritesLayer, RewritesDrill, RewritingIsUnique}
+use Rattle.ringcheck_files.proofs.Common.{◌≡◌, ◌↔◌, ◌⊎◌, ℕ, List, Result, Ok, Err, refl, sym, ap, ◌∙◌, inl, inr, Fault, Strict, canonical_text, without_places, LayerImage, ReadsLayer, ReadingIsUniqueIn, DrillCommand, IsDrillText, RewritesLayer, RewritesDrill, RewritingIsUnique, rewritten_text}
 use Rattle.drill_text.specs.Profiles as drills
-use Rattle.drill_text.specs.Writing.{rewritten_text}
 use Rattle.ringcheck_files.specs.declared.rewrite.Kind.TheVariants as kind
 
 module _ {X : Type 0} (says : Result X Fault → Type 0) (text : X → Result (List ℕ) Fault) (once : (a b : Result X Fault) → says a → says b → a ≡ b) where

@@ -1,12 +1,9 @@
 -- A rewritten text has the same commands.
-use Rattle.ringcheck_files.proofs.Common.{◌≡◌, ℕ, ◌≤◌, Bool, true, false, cond, ltb, List, length, Ok, Err, refl, sym, ap, subst, ◌∙◌, ltb-false, TooLong, fault, Strict, canonical_text, lines, without_places, IsLayerTextIn, LayerImage, ReadsLayer, image_of, DrillCommand, IsDrillText, SpellsText, KeepsCommands, RewritingIsIdempotent}
+use Rattle.ringcheck_files.proofs.Common.{◌≡◌, ℕ, ◌≤◌, Bool, true, false, cond, ltb, List, length, Ok, Err, refl, sym, ap, subst, ◌∙◌, ltb-false, TooLong, fault, Strict, canonical_text, lines, without_places, IsLayerTextIn, LayerImage, ReadsLayer, image_of, DrillCommand, IsDrillText, SpellsText, KeepsCommands, RewritingIsIdempotent, reads_spells, IsLegal, round_trip}
 use Rattle.grid_units.specs.Limits.{text_limit}
 use Rattle.gerber_text.proofs.TextIsSayable.{text_sayable}
 use Rattle.gerber_text.proofs.RoundTrip.{reads_as}
-use Rattle.gerber_text.proofs.SpellsTextLemmas.{reads_spells}
-use Rattle.grid_units.specs.Lists.{IsLegal}
 use Rattle.drill_text.specs.Writing as drills
-use Rattle.drill_text.proofs.RoundTrip.{round_trip}
 use Rattle.drill_text.proofs.TextIsSayable as saying
 use Rattle.ringcheck_files.specs.declared.rewrite.Kind.TheVariants as kind
 use Rattle.ringcheck_files.proofs.Typed.{text_typed}

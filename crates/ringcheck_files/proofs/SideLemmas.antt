@@ -1,6 +1,5 @@
 -- Sides of pads, as they are spelled.
-use Rattle.ringcheck_files.proofs.Common.{◌≡◌, ◌∙◌, ◌<◌, ◌++◌, ◌∷◌, ◌/◌, ◌%◌, ◌^◌, ℕ, pos, List, ap, ap₂, sym, arith, lit<, decimal, decimal_digit, millimetres, places}
-use Rattle.grid_units.proofs.Spelled.{below_one}
+use Rattle.ringcheck_files.proofs.Common.{◌≡◌, ◌∙◌, ◌<◌, ◌++◌, ◌∷◌, ◌/◌, ◌%◌, ◌^◌, ℕ, pos, List, ap, ap₂, sym, arith, lit<, decimal, decimal_digit, millimetres, places, below_one}
 
 -- what follows the zero of a length below one: a point and its decimals
 pub behind_zero : (n : ℕ) → n < 10 ^ 9 → (spelled rest : List ℕ) → spelled ≡ millimetres (pos n) → spelled ≡ 48 ∷ rest → rest ≡ 46 ∷ places 9 n

@@ -1,31 +1,22 @@
 -- The commands that a drill text spells have numbers in the ranges of their types.
-use Rattle.ringcheck_files.proofs.Common.{◌≡◌, ℕ, ◌-◌, ◌≤◌, Bool, true, false, cond, ◌&&◌, eqb, leb, List, [], ◌∷◌, ◌++◌, length, drop, ℤ, Option, Some, None, unwrap_or, Result, Ok, Err, refl, sym, ap, subst, ◌∙◌, arith, append-nil, append_assoc, codes, option_and_then, take_while, count_by, list_all, list_any, prefix_len, AllByRecursion, option_map, option_or, option_to_list, leb-true, Reason, OldFormat, BadLine, BadNumber, ◌>>=◌, both, DrillCommand, spelled_after, SpellsText}
-use Rattle.grid_units.specs.Lists.{last_set}
+use Rattle.ringcheck_files.proofs.Common.{◌≡◌, ℕ, ◌-◌, ◌≤◌, Bool, true, false, cond, ◌&&◌, eqb, leb, List, [], ◌∷◌, ◌++◌, length, drop, ℤ, Option, Some, None, unwrap_or, Result, Ok, Err, refl, sym, ap, subst, ◌∙◌, arith, append-nil, append_assoc, codes, option_and_then, take_while, count_by, list_all, list_any, prefix_len, AllByRecursion, option_map, option_or, option_to_list, leb-true, Reason, OldFormat, BadLine, BadNumber, ◌>>=◌, both, DrillCommand, spelled_after, SpellsText, last_set, Zeros, Leading, Trailing, is_digit, is_number_char, parse_decimal, parse_zero_filled, bind_ok, both_ok, Digits, AreDigitCounts, IsDec, IsOptionalDec, IsPoint, IsInRange, both_true, AreTyped, typed_none, typed_more}
 use Rattle.grid_units.specs.declared.lengths.Unit.{Unit as Units}
 use Rattle.grid_units.specs.declared.lengths.Unit.TheVariants.{Inch, Millimetre}
-use Rattle.grid_units.specs.declared.zero_filling.Zeros.{Zeros}
-use Rattle.grid_units.specs.declared.zero_filling.Zeros.TheVariants.{Leading, Trailing}
 use Rattle.grid_units.specs.Rows.{RowOf, first_match_or, strip_prefix, literal_row}
-use Rattle.grid_units.specs.Numbers.{is_digit, is_number_char, parse_decimal, parse_zero_filled}
-use Rattle.grid_units.proofs.ResultLemmas.{bind_ok, both_ok}
 use Rattle.drill_lines.specs.declared.command.Coordinates.{Coordinates}
 use Rattle.drill_lines.specs.declared.command.Part.{Part}
 use Rattle.drill_lines.specs.declared.command.Part.TheVariants as part
 use Rattle.drill_lines.specs.declared.command.Settings.{Settings}
 use Rattle.drill_lines.specs.declared.command.DrillCommand.TheVariants.{Comment, Start, UnitLine, Tool, HeaderEnd, UnitCode, Pick, Hit, Slot, Finish}
-use Rattle.drill_lines.specs.Formats.{Digits, AreDigitCounts}
 use Rattle.drill_lines.specs.Lines.{without_end_blanks}
 use Rattle.drill_lines.specs.Header.{is_zero, is_digit_count, digit_counts, pattern_from, pattern, unit_format, unit_line, is_format_digit, parse_format, file_format}
 use Rattle.drill_lines.specs.Tools.{is_point, is_diameter_letter, is_tool_letter, is_skipped_letter, are_fields, tool_number, diameter_of, diameter_run, tool_fields, tool_line, pick_fields, pick_line}
 use Rattle.drill_lines.specs.HoleLines.{default_format, format_in, zeros_in, coordinate_of, coordinate, Runs, runs_of, has_run, coordinates, slot_line, hole_from, hole_line}
 use Rattle.drill_lines.specs.Meaning.{one_command, lines_before, common_lines, common_rows, header_ends, header_rows, body_prefixes, body_rows, begins_comment, line_in, meaning}
-use Rattle.drill_lines.specs.Writing.{IsDec, IsOptionalDec, IsPoint, IsInRange}
 use Rattle.drill_lines.proofs.Rows.{RowHas, first_match_has, just_has, beginning_has, prefix_has}
-use Rattle.grid_units.proofs.BoolLemmas.{both_true}
 use Rattle.drill_text.specs.Lookback.{header, format_set, settings_after}
 use Rattle.drill_text.specs.Lookback as lookback
 use Rattle.drill_text.proofs.SplitsLemmas.{AllR-append}
-use Rattle.drill_text.proofs.RoundTrip.{AreTyped, typed_none, typed_more}
 use Rattle.ringcheck_files.proofs.Ranges.{dec_small, zeros_small}
 
 -- the command, if it is one, has numbers in their ranges

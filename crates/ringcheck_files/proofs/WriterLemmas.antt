@@ -1,15 +1,10 @@
 -- A legal layer that is read again, and rewritten as it is read.
-use Rattle.ringcheck_files.proofs.Common.{◌≡◌, ℕ, List, ◌++◌, Result, Ok, Err, sym, ap, subst, append-nil, [], ◌∙◌, inl, inr, Vec, Fault, Answers, AnswersAlways, IfFault, ReadsAs, Strict, Entries, entries_after, canonical_text, without_places, LayerImage, ReadsLayer, KeptLayer, ReadsKeptIn, WidePad, ShowsLayerFaultIn, RewritesDrill, RewritesLayer, ShowsReadFault}
-use Rattle.grid_units.specs.declared.fault.Fail.{Fail}
+use Rattle.ringcheck_files.proofs.Common.{◌≡◌, ℕ, List, ◌++◌, Result, Ok, Err, sym, ap, subst, append-nil, [], ◌∙◌, inl, inr, Vec, Fault, Answers, AnswersAlways, IfFault, ReadsAs, Strict, Entries, entries_after, canonical_text, without_places, LayerImage, ReadsLayer, KeptLayer, ReadsKeptIn, WidePad, ShowsLayerFaultIn, RewritesDrill, RewritesLayer, ShowsReadFault, Fail, DrillFile, file_of, Stated, FailsWithIn, spells_reads}
 use Rattle.grid_units.specs.declared.fault.Fail.TheVariants as fails
 use Rattle.drill_text.specs.Profiles as drills
-use Rattle.drill_text.specs.Outcome.{DrillFile, file_of}
 use Rattle.drill_text.specs.Writing.{vec_bytes}
 use Rattle.drill_text.specs.declared.kept.Keep.TheVariants as drill_keep
-use Rattle.drill_text.specs.declared.platings.PlatingKind.TheVariants.{Stated}
 use Rattle.gerber_text.specs.Reading.{ReadsIn}
-use Rattle.gerber_text.specs.Holding.{FailsWithIn}
-use Rattle.gerber_text.proofs.SpellsTextLemmas.{spells_reads}
 use Rattle.gerber_text.proofs.UniqueReading.{one_read}
 use Rattle.gerber_text.proofs.FinishLemmas.{shows_reads}
 use Rattle.gerber_text.proofs.FaultsStay.{fails_longer}

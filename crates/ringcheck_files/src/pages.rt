@@ -113,6 +113,8 @@ NoZeros: a coordinate without a decimal point omits zeros, and the header does
 not say which.
 KiCad: zeros format, decimal or keep zeros.
 Altium (known setting, not tried): keep leading and trailing zeroes.
+Or say its unit, digits and zeros in the manifest (version 3), and check with
+--profile wide.
 ",
     "\
 TooManyDigits: a coordinate has more digits than the file's format allows.
@@ -129,8 +131,9 @@ number of decimals. Export the file again, or fix the length on the command
 line.
 ",
     "\
-BareCoordinate: a coordinate has no D code, and no line was drawn before it,
-so it could mean a draw, a move or a flash. Export the layer again.
+BareCoordinate: a coordinate has no D code, and no operation stands before it
+that it repeats. In the profile strict it repeats a draw alone. Check with
+--profile wide, or export the layer again.
 ",
     "\
 InRegion: a command between G36 and G37, where the outline of a region is
@@ -146,7 +149,8 @@ it draws or ends. Export it again, in full.
 ",
     "\
 NoUnit: the file does not give its unit (%MO in a layer, METRIC or INCH in
-the header of a drill file). Export it again, in full.
+the header of a drill file). Export it again, in full. Or say the unit of a
+drill file in the manifest (version 3), and check with --profile wide.
 ",
     "\
 UnitConflict: two lines of one file disagree on the unit. Export it again.

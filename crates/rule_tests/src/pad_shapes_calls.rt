@@ -1,5 +1,6 @@
 //! What pads cover, and the ranges of their sizes.
 
+use crate::rows::Shape::{Disc, Obround, Rect};
 use crate::rows::{Shape, pad};
 use grid_units::Point;
 use pad_shapes::*;
@@ -30,10 +31,10 @@ fn covers_hole(pad: Option<Pad>, x: i64, y: i64) -> Option<bool> {
 #[test]
 fn pads_cover_holes_up_to_equality(rt: HostRuntime) {
     for &(shape, half_x, half_y, x, y, is_covered) in &[
-        (Shape::Disc, 825_000_000, 0, 300_000_000, 400_000_000, true),
-        (Shape::Disc, 825_000_000, 0, 300_001_000, 400_000_000, false),
+        (Disc, 825_000_000, 0, 300_000_000, 400_000_000, true),
+        (Disc, 825_000_000, 0, 300_001_000, 400_000_000, false),
         (
-            Shape::Obround,
+            Obround,
             1_000_000_000,
             500_000_000,
             605_000_000,
@@ -41,7 +42,7 @@ fn pads_cover_holes_up_to_equality(rt: HostRuntime) {
             true,
         ),
         (
-            Shape::Obround,
+            Obround,
             1_000_000_000,
             500_000_000,
             605_000_000,
@@ -49,29 +50,15 @@ fn pads_cover_holes_up_to_equality(rt: HostRuntime) {
             false,
         ),
         (
-            Shape::Rect,
+            Rect,
             1_000_000_000,
             500_000_000,
             605_000_000,
             150_000_000,
             true,
         ),
-        (
-            Shape::Rect,
-            1_000_000_000,
-            350_000_000,
-            0,
-            600_000_000,
-            false,
-        ),
-        (
-            Shape::Rect,
-            350_000_000,
-            1_000_000_000,
-            0,
-            600_000_000,
-            true,
-        ),
+        (Rect, 1_000_000_000, 350_000_000, 0, 600_000_000, false),
+        (Rect, 350_000_000, 1_000_000_000, 0, 600_000_000, true),
     ] {
         let pad = pad((shape, 0, 0, half_x, half_y));
         assert!(rt; covers_hole(pad, x, y) == Some(is_covered), "at {x},{y}");
@@ -81,11 +68,11 @@ fn pads_cover_holes_up_to_equality(rt: HostRuntime) {
 #[test]
 fn pads_elsewhere_cover_holes_up_to_equality(rt: HostRuntime) {
     for &(shape, half_y, x, y, is_covered) in &[
-        (Shape::Disc, 0, 5_000, 7_000, true),
-        (Shape::Obround, REACH, 5_000, 7_000, true),
-        (Shape::Rect, 2 * REACH, 5_000, 7_000, true),
-        (Shape::Rect, 2 * REACH, 5_000, 325_007_000, true),
-        (Shape::Disc, 0, 5_001, 7_000, false),
+        (Disc, 0, 5_000, 7_000, true),
+        (Obround, REACH, 5_000, 7_000, true),
+        (Rect, 2 * REACH, 5_000, 7_000, true),
+        (Rect, 2 * REACH, 5_000, 325_007_000, true),
+        (Disc, 0, 5_001, 7_000, false),
     ] {
         let pad = pad((shape, 5_000, 7_000, REACH, half_y));
         assert!(rt; covers_hole(pad, x, y) == Some(is_covered), "at {x},{y}");
@@ -106,16 +93,9 @@ fn sides_of(pad: Option<Pad>) -> Option<(i64, i64, i64, i64, Point)> {
 #[test]
 fn pads_have_their_sides(rt: HostRuntime) {
     for &(shape, x, half_x, half_y, left, right) in &[
+        (Disc, 0, 825_000_000, 825_000_000, -825_000_000, 825_000_000),
         (
-            Shape::Disc,
-            0,
-            825_000_000,
-            825_000_000,
-            -825_000_000,
-            825_000_000,
-        ),
-        (
-            Shape::Obround,
+            Obround,
             0,
             1_000_000_000,
             500_000_000,
@@ -123,29 +103,15 @@ fn pads_have_their_sides(rt: HostRuntime) {
             1_000_000_000,
         ),
         (
-            Shape::Rect,
+            Rect,
             0,
             350_000_000,
             1_000_000_000,
             -350_000_000,
             350_000_000,
         ),
-        (
-            Shape::Disc,
-            5_000,
-            REACH,
-            REACH,
-            5_000 - REACH,
-            5_000 + REACH,
-        ),
-        (
-            Shape::Rect,
-            5_000,
-            REACH,
-            2 * REACH,
-            5_000 - REACH,
-            5_000 + REACH,
-        ),
+        (Disc, 5_000, REACH, REACH, 5_000 - REACH, 5_000 + REACH),
+        (Rect, 5_000, REACH, 2 * REACH, 5_000 - REACH, 5_000 + REACH),
     ] {
         let wanted = Point::new(x, 7_000).map(|centre| (left, right, half_x, half_y, centre));
         let sides = sides_of(pad((shape, x, 7_000, half_x, half_y)));
@@ -156,12 +122,12 @@ fn pads_have_their_sides(rt: HostRuntime) {
 #[test]
 fn lengths_out_of_range_are_refused(rt: HostRuntime) {
     for &(shape, half_x, half_y, is_pad) in &[
-        (Shape::Disc, 0, 0, true),
-        (Shape::Disc, -1, 0, false),
-        (Shape::Disc, MAX_HALF_SIDE + 1, 0, false),
-        (Shape::Rect, 0, 1, false),
-        (Shape::Rect, 1, MAX_HALF_SIDE, true),
-        (Shape::Obround, 1, 0, false),
+        (Disc, 0, 0, true),
+        (Disc, -1, 0, false),
+        (Disc, MAX_HALF_SIDE + 1, 0, false),
+        (Rect, 0, 1, false),
+        (Rect, 1, MAX_HALF_SIDE, true),
+        (Obround, 1, 0, false),
     ] {
         assert!(rt;
             pad((shape, 0, 0, half_x, half_y)).is_some() == is_pad,
@@ -181,7 +147,7 @@ fn covers_slot(pad: Option<Pad>, from: i64, to: i64) -> Option<bool> {
 fn a_slot_is_covered_by_its_two_ends(rt: HostRuntime) {
     for &(shape, x, half_x, from, to, is_covered) in &[
         (
-            Shape::Obround,
+            Obround,
             1_000_000_000,
             1_375_000_000,
             0,
@@ -189,32 +155,25 @@ fn a_slot_is_covered_by_its_two_ends(rt: HostRuntime) {
             true,
         ),
         (
-            Shape::Obround,
+            Obround,
             1_000_000_000,
             1_375_000_000,
             2_000_000_000,
             0,
             true,
         ),
-        (Shape::Obround, 1_000_000_000, 1_375_000_000, 0, 0, true),
+        (Obround, 1_000_000_000, 1_375_000_000, 0, 0, true),
         (
-            Shape::Obround,
+            Obround,
             1_000_000_000,
             1_370_000_000,
             0,
             2_000_000_000,
             false,
         ),
-        (Shape::Disc, 0, SLOT_REACH, 0, 2_000_000_000, false),
-        (Shape::Disc, 0, SLOT_REACH, 2_000_000_000, 0, false),
-        (
-            Shape::Rect,
-            1_000_000_000,
-            1_375_000_000,
-            0,
-            2_000_000_000,
-            true,
-        ),
+        (Disc, 0, SLOT_REACH, 0, 2_000_000_000, false),
+        (Disc, 0, SLOT_REACH, 2_000_000_000, 0, false),
+        (Rect, 1_000_000_000, 1_375_000_000, 0, 2_000_000_000, true),
     ] {
         let pad = pad((shape, x, 0, half_x, SLOT_REACH));
         assert!(rt;
@@ -225,8 +184,8 @@ fn a_slot_is_covered_by_its_two_ends(rt: HostRuntime) {
 }
 
 /// A disc at the origin, and the zone of the centres that it may cover.
-fn disc_and_zone() -> Option<(Disc, Zone)> {
-    let disc = Disc::new(Point::new(0, 0)?, 825_000_000)?;
+fn disc_and_zone() -> Option<(pad_shapes::Disc, Zone)> {
+    let disc = pad_shapes::Disc::new(Point::new(0, 0)?, 825_000_000)?;
     let zone = disc.zone(325_000_000)?;
     Some((disc, zone))
 }

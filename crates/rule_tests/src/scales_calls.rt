@@ -3,6 +3,7 @@
 use crate::rows::{add_round, disc, drilled, point};
 use board::best_pads;
 use pad_shapes::WidePad;
+use report::UnitFactor::*;
 use report::{UnitFactor, UnitMistake, *};
 use ring_rules::Drilled;
 use std::alloc::Global;
@@ -90,21 +91,17 @@ const LINES: [(Places, Places, Option<LineRow>); 7] = [
     (
         &[(10, 0), (20, 0), (30, 10)],
         &[(1, 0), (2, 0), (3, 1)],
-        Some((3, UnitFactor::Ten, 0)),
+        Some((3, Ten, 0)),
     ),
     (&[], &[(1, 0), (2, 0), (3, 1)], None),
-    (
-        &[(254, 0), (100, 0)],
-        &[(10, 0)],
-        Some((1, UnitFactor::Ten, 0)),
-    ),
-    (&[(254, 0)], &[(10, 0)], Some((1, UnitFactor::Inch, 0))),
+    (&[(254, 0), (100, 0)], &[(10, 0)], Some((1, Ten, 0))),
+    (&[(254, 0)], &[(10, 0)], Some((1, Inch, 0))),
     (&[(5, 5), (10, 0)], &[(5, 5), (1, 0)], None),
     (&[(5, 5), (10, 0)], &[(1, 0), (3, 3)], None),
     (
         &[(5, 5), (10, 0)],
         &[(1, 0), (3, 3), (1, 0)],
-        Some((3, UnitFactor::Ten, 1)),
+        Some((3, Ten, 1)),
     ),
 ];
 
@@ -126,7 +123,7 @@ fn slots_do_not_count(rt: HostRuntime) -> Result<(), Fail> {
     let pads = [disc_at(0, 0)?, disc_at(10, 0)?];
     let long = slot((0, 0), (1, 0))?;
     let holes = [long, hit(1, 0)?, long];
-    assert!(rt; line(rt.alloc(), &pads, &holes)? == told(1, UnitFactor::Ten, 0));
+    assert!(rt; line(rt.alloc(), &pads, &holes)? == told(1, Ten, 0));
     Ok(())
 }
 
@@ -164,13 +161,7 @@ fn files_of_shared_holes(rt: HostRuntime) -> Result<(), Fail> {
         },
     ];
     let lines = unit_mistakes(rt.alloc(), &pads, &holes, &bests, files)?;
-    let wanted = &[
-        told(1, UnitFactor::Ten, 0),
-        None,
-        None,
-        told(2, UnitFactor::Ten, 0),
-        None,
-    ];
+    let wanted = &[told(1, Ten, 0), None, None, told(2, Ten, 0), None];
     assert!(rt; lines.as_slice() == wanted.as_slice());
     Ok(())
 }
@@ -183,13 +174,13 @@ fn scaled_x(x: i64, factor: UnitFactor) -> Result<Option<i64>, Fail> {
 #[test]
 fn rounded_down(rt: HostRuntime) -> Result<(), Fail> {
     for &(x, factor, scaled) in &[
-        (1, UnitFactor::Ten, 10),
-        (19, UnitFactor::Tenth, 1),
-        (-1, UnitFactor::Tenth, -1),
-        (-1, UnitFactor::Inch, -26),
-        (5, UnitFactor::Inch, 127),
-        (254, UnitFactor::PerInch, 10),
-        (-255, UnitFactor::PerInch, -11),
+        (1, Ten, 10),
+        (19, Tenth, 1),
+        (-1, Tenth, -1),
+        (-1, Inch, -26),
+        (5, Inch, 127),
+        (254, PerInch, 10),
+        (-255, PerInch, -11),
     ] {
         assert!(rt; scaled_x(x, factor)? == Some(scaled), "of {x}");
     }
@@ -200,8 +191,8 @@ fn rounded_down(rt: HostRuntime) -> Result<(), Fail> {
 #[test]
 fn beyond_ten_metres(rt: HostRuntime) -> Result<(), Fail> {
     let metre = 1_000 * MM;
-    let near = scaled_point(point(0, metre)?, UnitFactor::Ten).is_some();
-    let beyond = scaled_point(point(0, metre + 1)?, UnitFactor::Ten).is_some();
+    let near = scaled_point(point(0, metre)?, Ten).is_some();
+    let beyond = scaled_point(point(0, metre + 1)?, Ten).is_some();
     let far = slot((2 * metre, 0), (2 * metre, 0))?;
     let line = line(rt.alloc(), &[disc_at(0, 0)?], &[far])?;
     assert!(rt; (near, beyond) == (true, false) && line.is_none());

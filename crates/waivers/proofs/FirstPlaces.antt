@@ -1,10 +1,8 @@
 -- The first place at which a test passes, and a table of first places.
-use Rattle.waivers.proofs.Common.{◌≡◌, ◌∙◌, ◌+◌, ◌++◌, ◌<◌, ℕ, List, [], ◌∷◌, Bool, true, false, cond, Option, Some, None, is_some, length, take, get_or, arith, refl, ap, sym, inl, inr, if◌then◌else◌, position_from, bytes_eq, length-take-le, take_more, bytes_eq-Decides, place_at}
+use Rattle.waivers.proofs.Common.{◌≡◌, ◌∙◌, ◌+◌, ◌++◌, ◌<◌, ℕ, List, [], ◌∷◌, Bool, true, false, cond, Option, Some, None, is_some, length, take, get_or, arith, refl, ap, sym, inl, inr, if◌then◌else◌, position_from, bytes_eq, length-take-le, take_more, bytes_eq-Decides, place_at, slice_cmp, option_or}
 use Rattle.std.specs.Borrow.{Bor}
 use Rattle.std.specs.BTreeMap as tree
 use Rattle.std.specs.BTreeMap.{BTreeMap}
-use Rattle.std.specs.Cmp.Lexicographic.{slice_cmp}
-use Rattle.std.specs.Option.{option_or}
 use Rattle.std.specs.Ordering.{nat_cmp}
 use Rattle.std.proofs.lemmas.Bool.{cases_Bool}
 use Rattle.std.proofs.lemmas.Map.Text.{btree_map_updates_str}

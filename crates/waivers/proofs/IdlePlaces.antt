@@ -1,13 +1,9 @@
 -- The numbers of the waivers that waive nothing, found by the first waiver alike of each.
-use Rattle.waivers.proofs.Common.{◌≡◌, ◌∙◌, ◌+◌, ◌++◌, ◌<◌, ◌||◌, ℕ, zero, suc, List, [], ◌∷◌, Bool, true, false, not, cond, Option, Some, None, is_some, length, take, get_or, map, arith, refl, ap, sym, subst, if◌then◌else◌, All, enumerate_from, filter, list_any, position_from, length-take-le, map-append, take_more, bytes_eq-Decides, slice_eq-Decides, CsvRecord, gap_fields, ring_fields, has_first_place, has_place, is_waived_by, is_waived_by_first, is_used, unused_numbers, unused_records, IsWaived, compared_fields, report_fields, idle_numbers, waived_by, waives, waives_nothing, Waiver}
+use Rattle.waivers.proofs.Common.{◌≡◌, ◌∙◌, ◌+◌, ◌++◌, ◌<◌, ◌||◌, ℕ, zero, suc, List, [], ◌∷◌, Bool, true, false, not, cond, Option, Some, None, is_some, length, take, get_or, map, arith, refl, ap, sym, subst, if◌then◌else◌, All, enumerate_from, filter, list_any, position_from, length-take-le, map-append, take_more, bytes_eq-Decides, slice_eq-Decides, CsvRecord, gap_fields, ring_fields, has_first_place, has_place, is_waived_by, is_waived_by_first, is_used, unused_numbers, unused_records, IsWaived, compared_fields, report_fields, idle_numbers, waived_by, waives, waives_nothing, Waiver, Decides-eqb, same_from_decides, position_from-zero, list_any-append, BoardReport}
 use Rattle.std.specs.BTreeSet.{BTreeSet}
 use Rattle.std.specs.Bool.{Decides}
-use Rattle.std.proofs.lemmas.Bool.Decides.{Decides-eqb, same_from_decides}
-use Rattle.std.proofs.lemmas.Iterator.Adapters.{position_from-zero}
 use Rattle.std.proofs.lemmas.List.Elements.{All-head, All-tail}
-use Rattle.std.proofs.lemmas.List.Folds.{list_any-append}
 use Rattle.std.proofs.lemmas.List.Quantifiers.{position-Some}
-use Rattle.report.specs.declared.BoardReport.{BoardReport}
 use Rattle.waivers.specs.declared.waiving.Waived.{Waived}
 
 module _ {X : Type 0} (p : X → Bool) where

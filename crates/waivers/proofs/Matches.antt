@@ -1,8 +1,5 @@
 -- The first waiver whose fields are those of a finding, found by its key.
-use Rattle.waivers.proofs.Common.{◌≡◌, ◌∙◌, ◌≤◌, ◌+◌, ◌++◌, ℕ, List, [], ◌∷◌, Bool, Option, Some, map, length, arith, refl, ap, sym, position_from, bytes_eq, bytes_eq-Decides, slice_eq-Decides, default_writer, read_back, row_text, CsvRecord, Waiver, record_key, compared_fields, waived_by, waives}
-use Rattle.std.specs.Cmp.Lexicographic.{pointwise}
-use Rattle.std.proofs.lemmas.Bool.Decides.{Decides-like, same_from_decides}
-use Rattle.std.proofs.lemmas.Iterator.Adapters.{position_from-zero}
+use Rattle.waivers.proofs.Common.{◌≡◌, ◌∙◌, ◌≤◌, ◌+◌, ◌++◌, ℕ, List, [], ◌∷◌, Bool, Option, Some, map, length, arith, refl, ap, sym, position_from, bytes_eq, bytes_eq-Decides, slice_eq-Decides, default_writer, read_back, row_text, CsvRecord, Waiver, record_key, compared_fields, waived_by, waives, pointwise, Decides-like, same_from_decides, position_from-zero}
 use Rattle.csv.specs.Machine.{Read, next_record}
 use Rattle.csv.specs.Reading.{default_config}
 use Rattle.csv.specs.declared.parser.State.TheVariants as st

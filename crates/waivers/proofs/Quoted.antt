@@ -1,7 +1,6 @@
 -- Fields as CSV: which stand between quotes, and what stands there.
-use Rattle.waivers.proofs.Common.{◌≡◌, ◌≢◌, ◌∙◌, ◌<◌, ◌≤◌, ◌+◌, ◌*◌, ◌/◌, ◌%◌, ◌^◌, ◌++◌, ◌==◌, ◌||◌, ℕ, zero, suc, ℤ, pos, negsuc, unsigned_abs, Bool, true, false, cond, nat_lt, List, [], ◌∷◌, length, get_or, codes, arith, rules, refl, ap, sym, append-nil, append_assoc, ne_eqb, AllByRecursion, default_writer, escaped, field_text, fields_text, is_blank, needs_byte, needs_quotes, row_text, CsvRecord, finding_record, head_record, record_key}
+use Rattle.waivers.proofs.Common.{◌≡◌, ◌≢◌, ◌∙◌, ◌<◌, ◌≤◌, ◌+◌, ◌*◌, ◌/◌, ◌%◌, ◌^◌, ◌++◌, ◌==◌, ◌||◌, ℕ, zero, suc, ℤ, pos, negsuc, unsigned_abs, Bool, true, false, cond, nat_lt, List, [], ◌∷◌, length, get_or, codes, arith, rules, refl, ap, sym, append-nil, append_assoc, ne_eqb, AllByRecursion, default_writer, escaped, field_text, fields_text, is_blank, needs_byte, needs_quotes, row_text, CsvRecord, finding_record, head_record, record_key, list_any-append}
 use Rattle.std.specs.Fmt.{decimal, digit_glyph, digits, digits_onto}
-use Rattle.std.proofs.lemmas.List.Folds.{list_any-append}
 use Rattle.grid_units.specs.Holes.{GridHole, is_round}
 use Rattle.grid_units.specs.Points.{GridPoint}
 use Rattle.grid_units.specs.Spellings.{fraction_text, minus, places, without_end_zeros}

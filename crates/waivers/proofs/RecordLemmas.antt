@@ -1,11 +1,7 @@
 -- One record after another.
-use Rattle.waivers.proofs.Common.{◌≡◌, ◌∙◌, ◌+◌, ◌++◌, ℕ, List, [], ◌∷◌, Option, Some, None, Ok, Err, length, map, slice_get, refl, ap, sym, map-append, Vec, CsvRecord, Waiver, checked_waiver, unless_broken, broken_rule, unless_wrong, waiver_of, waivers_after_head}
+use Rattle.waivers.proofs.Common.{◌≡◌, ◌∙◌, ◌+◌, ◌++◌, ℕ, List, [], ◌∷◌, Option, Some, None, Ok, Err, length, map, slice_get, refl, ap, sym, map-append, Vec, CsvRecord, Waiver, checked_waiver, unless_broken, broken_rule, unless_wrong, waiver_of, waivers_after_head, violations, Answers, with_place, fault, Reason, Fault}
 use Rattle.std.specs.declared.alloc.Global.{Global}
 use Rattle.grid_units.proofs.LookbackLemmas.{violations-first, violations-more}
-use Rattle.grid_units.specs.Lists.{violations}
-use Rattle.grid_units.specs.Results.{Answers, with_place, fault}
-use Rattle.grid_units.specs.declared.fault.Reason.{Reason}
-use Rattle.grid_units.specs.declared.fault.Fault.{Fault}
 use Rattle.grid_units.specs.declared.fault.Fail.{Fail}
 use Rattle.grid_units.specs.declared.fault.Fail.TheVariants as fails
 

@@ -1,8 +1,5 @@
 -- A file of waivers is refused for one of its own reasons.
-use Rattle.waivers.proofs.Common.{◌≡◌, ◌∙◌, ◌+◌, ◌==◌, nat_lt, ℕ, Bool, true, false, List, [], ◌∷◌, Option, Some, None, Result, Err, length, map, not, refl, ap, sym, if◌then◌else◌, CsvRecord, field, is_well_formed, csv_records, Waiver, broken_rule, first_wrong, is_heading, is_kind, is_waiver_reason, reason_limit, unless_wrong, waiver_of, waivers, waivers_after_head, waivers_of}
-use Rattle.grid_units.specs.Results.{fault}
-use Rattle.grid_units.specs.declared.fault.Fault.{Fault}
-use Rattle.grid_units.specs.declared.fault.Reason.{Reason}
+use Rattle.waivers.proofs.Common.{◌≡◌, ◌∙◌, ◌+◌, ◌==◌, nat_lt, ℕ, Bool, true, false, List, [], ◌∷◌, Option, Some, None, Result, Err, length, map, not, refl, ap, sym, if◌then◌else◌, CsvRecord, field, has_plain_fields, csv_records, Waiver, broken_rule, first_wrong, is_heading, is_kind, is_waiver_reason, reason_limit, unless_wrong, waiver_of, waivers, waivers_after_head, waivers_of, fault, Fault, Reason}
 use Rattle.grid_units.specs.declared.fault.Reason.TheVariants.{BadManifest, BadRole, EmptyName, TooLong}
 use Rattle.manifest.proofs.ManifestReasons.{Fair, FairAt, listed_if, first_is_listed}
 use Rattle.waivers.proofs.RecordLemmas.{rule}
@@ -11,7 +8,7 @@ broken_fair : (row : CsvRecord) → Fair is_waiver_reason (broken_rule row)
 unfolding Fair
 broken_fair row =
     let either = listed_if is_waiver_reason in
-    either (not (is_well_formed 6 row)) (Some BadManifest) _ refl
+    either (not (has_plain_fields row)) (Some BadManifest) _ refl
     (either (not (is_kind (field 0 row))) (Some BadRole) _ refl
     (either (length (field 5 row) == 0) (Some EmptyName) _ refl (either (nat_lt reason_limit (length (field 5 row))) (Some TooLong) None refl tt)))
 

@@ -1,12 +1,13 @@
 -- The waivers of a text, and the rules by which it is refused (docs/FORMATS.md, Waivers).
 use Rattle.std.specs.Prelude.{◌+◌, ◌==◌, nat_lt, ◌&&◌, ◌||◌, ℕ, Bool, true, false, not, if◌then◌else◌, List, [], ◌∷◌, length, codes, slice_get, map, Option, Some, None, Result, Ok, Err}
+use Rattle.std.specs.List.{list_all}
 use Rattle.std.specs.Str.{bytes_eq}
 use Rattle.grid_units.specs.Lists.{violations}
 use Rattle.grid_units.specs.Results.{fault}
 use Rattle.grid_units.specs.declared.fault.Reason.{Reason}
 use Rattle.grid_units.specs.declared.fault.Reason.TheVariants.{BadManifest, BadRole, EmptyName, TooLong}
 use Rattle.grid_units.specs.declared.fault.Fault.{Fault}
-use Rattle.manifest.specs.Manifest.{CsvRecord, field, is_well_formed, csv_records}
+use Rattle.manifest.specs.Manifest.{CsvRecord, field, is_plain_text, csv_records}
 use Rattle.waivers.specs.declared.Waiver.{Waiver}
 
 -- the first three fields are `kind`, `layer`, `hole`
@@ -21,6 +22,10 @@ has_reason_columns row = bytes_eq (field 3 row) (codes "and") && (bytes_eq (fiel
 abbrev pub is_heading : CsvRecord → Bool
 is_heading row = (length row == 6) && (has_place_columns row && has_reason_columns row)
 
+-- a record of just six fields, each of plain text
+abbrev pub has_plain_fields : CsvRecord → Bool
+has_plain_fields row = (length row == 6) && list_all is_plain_text row
+
 -- a kind of finding: `ring` or `gap`
 abbrev pub is_kind : List ℕ → Bool
 is_kind word = bytes_eq word (codes "ring") || bytes_eq word (codes "gap")
@@ -32,7 +37,7 @@ reason_limit = 1000
 -- the first rule that a record after the head breaks
 abbrev pub broken_rule : CsvRecord → Option Reason
 broken_rule row =
-    if not (is_well_formed 6 row) then Some BadManifest
+    if not (has_plain_fields row) then Some BadManifest
     else if not (is_kind (field 0 row)) then Some BadRole
     else if length (field 5 row) == 0 then Some EmptyName
     else if nat_lt reason_limit (length (field 5 row)) then Some TooLong else None

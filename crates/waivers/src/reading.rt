@@ -3,7 +3,7 @@
 ghost use Rattle.std.specs.Prelude.{◌≡◌, map, true, false, MatchOption, IfErr, IfOk, Ok, Err};
 ghost use Rattle.csv.specs.Records.{fields_of};
 ghost use Rattle.grid_units.specs.Results.{Answers, with_place};
-ghost use Rattle.manifest.specs.Manifest.{field, is_well_formed};
+ghost use Rattle.manifest.specs.Manifest.{field};
 ghost use Rattle.waivers.specs.Reading as naming;
 ghost use Rattle.waivers.specs.Inner.{checked_waiver, waiver_with};
 
@@ -118,10 +118,10 @@ struct Fields<'a> {
     why: &'a str,
 }
 
-/// The fields of a record, if it is well formed.
+/// The fields of a record, if there are just six, each of plain text.
 fn text_fields<'a>(row: &'a ByteRecord) -> Option<Fields<'a>>
-    ensures { MatchOption result (is_well_formed 6 (fields_of row.now) ≡ false)
-        (λ f. (is_well_formed 6 (fields_of row.now) ≡ true) × (f.kind.now ≡ field 0 (fields_of row.now)) × (f.layer.now ≡ field 1 (fields_of row.now))
+    ensures { MatchOption result (naming.has_plain_fields (fields_of row.now) ≡ false)
+        (λ f. (naming.has_plain_fields (fields_of row.now) ≡ true) × (f.kind.now ≡ field 0 (fields_of row.now)) × (f.layer.now ≡ field 1 (fields_of row.now))
         × (f.hole.now ≡ field 2 (fields_of row.now)) × (f.and.now ≡ field 3 (fields_of row.now)) × (f.has.now ≡ field 4 (fields_of row.now))
         × (f.why.now ≡ field 5 (fields_of row.now))) }
 {

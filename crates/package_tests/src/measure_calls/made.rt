@@ -3,7 +3,7 @@
 use super::{file, passes};
 use board::Met;
 use grid_units::Profile;
-use package_check::{File, Role, Span, measure_bytes};
+use package_check::{File, Role, Said, Span, measure_bytes};
 use report::Meets;
 use std::alloc::{AllocError, Global};
 use std::test::Fail as Failure;
@@ -145,7 +145,10 @@ fn file_at<'a>(texts: &'a [String], parts: &[(Role, Option<Span>)], index: usize
         (Some(text), Some((role, span))) => File {
             role: *role,
             name: "made",
-            span: *span,
+            said: Said {
+                span: *span,
+                format: None,
+            },
             bytes: text.as_bytes(),
         },
         _ => file(Role::Copper, "none", b""),

@@ -2,13 +2,13 @@
 use Rattle.std.specs.Prelude.{◌≡◌, ◌<◌, ◌++◌, ◌||◌, ◌&&◌, nat_lt, ℕ, Bool, true, false, List, [], length, get_or, slice_get, Option, None, Some, Result, Ok, Err}
 use Rattle.std.specs.List.{count_by}
 use Rattle.grid_units.specs.Holes.{GridRules}
-use Rattle.grid_units.specs.Spans.{LayerSpan}
 use Rattle.grid_units.specs.declared.profile.Profile.{Profile}
 use Rattle.board.specs.Boards.{BoardView}
 use Rattle.layer_features.specs.Kept.{keeps_drawn, keeps_rows}
 use Rattle.layer_features.specs.declared.keep.Keep.{Keep}
 use Rattle.manifest.specs.declared.Entry.{Entry}
 use Rattle.manifest.specs.declared.Role.{Role}
+use Rattle.manifest.specs.declared.Said.{Said}
 use Rattle.package_check.specs.CheckViews.{CheckView, setting_of}
 use Rattle.package_check.specs.Checking.{HasJudged, TakesCopper}
 use Rattle.package_check.specs.Holding.{HasTaken, TakesFile, is_kind, setting_of as reader_setting}
@@ -33,7 +33,7 @@ copper_entries entries = count_by (λ entry. is_copper entry.role) entries
 
 -- the file of an entry with these bytes, read in this
 abbrev pub source : Setting → Entry → List ℕ → FileView
-source setting entry bytes = record { role = entry.role; name = entry.name; span = entry.span; bytes = bytes; setting = setting }
+source setting entry bytes = record { role = entry.role; name = entry.name; said = entry.said; bytes = bytes; setting = setting }
 
 -- whether an entry is there, and is of this kind
 abbrev pub is_kind_of : Bool → Option Entry → Bool
@@ -62,14 +62,14 @@ OfHandedFile has index entry IsTaken Risen (Some halt) = Halts (RefusesLong has 
 
 -- between two states an open file has read just these bytes, whatever file of whatever package it is
 abbrev pub GoesOn : OpenFile → OpenFile → List ℕ → Type 0
-GoesOn start now bytes = (reader : PackageReader) (index : ℕ) (of : Role) (span : Option LayerSpan) (text : List ℕ)
-    → HasOpened reader index of span start text → HasOpened reader index of span now (text ++ bytes)
+GoesOn start now bytes = (reader : PackageReader) (index : ℕ) (of : Role) (said : Said) (text : List ℕ)
+    → HasOpened reader index of said start text → HasOpened reader index of said now (text ++ bytes)
 
 -- between two states the open copper file of a check has read just these bytes, whatever file it is
 abbrev pub CopperGoesOn : CheckSink → CheckSink → List ℕ → Type 0
 CopperGoesOn start now bytes =
-    (first : CheckView) (index layer : ℕ) (span : Option LayerSpan) (text : List ℕ)
-    → HasOpenedCopper first start.check index layer span start.file text → HasOpenedCopper first now.check index layer span now.file (text ++ bytes)
+    (first : CheckView) (index layer : ℕ) (said : Said) (text : List ℕ)
+    → HasOpenedCopper first start.check index layer said start.file text → HasOpenedCopper first now.check index layer said now.file (text ++ bytes)
 
 -- the file of an entry was loaded, and a reader has taken it
 abbrev pub LoadsFile : Relation → PackageReader → PackageReader → ℕ → Entry → Type 0

@@ -1,4 +1,5 @@
-use Rattle.std.proofs.Common.{◌≡◌, ℕ, zero, suc, List, [], ◌∷◌, ◌++◌, refl, sym, ap, ◌∙◌, append_assoc, replicate, add-one}
+use Rattle.drill_lines.proofs.Common.{◌≡◌, ℕ, zero, suc, List, [], ◌∷◌, ◌++◌, refl, sym, ap, ◌∙◌, append_assoc, replicate}
+use Rattle.std.proofs.Common.{add-one}
 use Rattle.drill_lines.proofs.canonical.put_zeros.Goals as goal
 
 zeros : ℕ → List ℕ

@@ -1,4 +1,4 @@
-use Rattle.std.proofs.Common.{◌≡◌, ◌++◌, replicate}
+use Rattle.drill_lines.proofs.Common.{◌≡◌, ◌++◌, replicate}
 use Rattle.drill_lines.proofs.canonical.put_zeros.Given as goal
 
 abbrev pub invariant-loop-i : goal.invariant-loop-i

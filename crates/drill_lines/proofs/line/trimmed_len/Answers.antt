@@ -1,6 +1,6 @@
-use Rattle.std.proofs.Common.{◌≡◌, ℕ, ◌<◌, ◌≤◌, ◌+◌, ◌-◌, List, [], ◌∷◌, ◌++◌, length, take, get_or, sym, ap, ◌∙◌, arith}
+use Rattle.drill_lines.proofs.Common.{◌≡◌, ℕ, ◌<◌, ◌≤◌, ◌+◌, List, [], ◌∷◌, ◌++◌, length, take, sym, ap, ◌∙◌, arith, without_end_blanks}
+use Rattle.std.proofs.Common.{◌-◌, get_or}
 use Rattle.std.proofs.lemmas.List.{take_more}
-use Rattle.drill_lines.specs.Lines.{without_end_blanks}
 use Rattle.drill_lines.proofs.TrimmedLemmas.{trim_blank, trim_kept}
 use Rattle.drill_lines.proofs.line.trimmed_len.Goals as goal
 

@@ -1,5 +1,4 @@
-use Rattle.std.proofs.Common.{◌≡◌, ◌≤◌, length, take}
-use Rattle.drill_lines.specs.Lines.{without_end_blanks}
+use Rattle.drill_lines.proofs.Common.{◌≡◌, ◌≤◌, length, take, without_end_blanks}
 use Rattle.drill_lines.proofs.line.trimmed_len.Given as goal
 
 abbrev pub invariant-loop-len : goal.invariant-loop-len

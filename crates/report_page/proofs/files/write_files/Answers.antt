@@ -1,5 +1,4 @@
-use Rattle.report_page.proofs.Common.{◌∙◌, ◌++◌, ℕ, List, ap, ap₂, length, map, refl, sym, take, enumerate_from, has_written_append, has_written_of_eq, FileSum, file_items, file_words, marks_all}
-use Rattle.picture.specs.Escapes.{escaped_name}
+use Rattle.report_page.proofs.Common.{◌∙◌, ◌++◌, ℕ, List, ap, ap₂, length, map, refl, sym, take, enumerate_from, has_written_append, has_written_of_eq, FileSum, file_items, file_words, marks_all, escaped_name}
 use Rattle.report_page.proofs.RowLemmas.{file_added}
 use Rattle.report_page.proofs.files.write_files.Goals as goal
 

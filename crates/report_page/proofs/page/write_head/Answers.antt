@@ -1,6 +1,5 @@
-use Rattle.report_page.proofs.Common.{◌++◌, ℕ, List, ap₂, map, refl, flat_map, has_written_append, has_written_of_eq, Profile, conflict_warning, files_text, particulars_text, verdict}
+use Rattle.report_page.proofs.Common.{◌++◌, ℕ, List, ap₂, map, refl, flat_map, has_written_append, has_written_of_eq, Profile, conflict_warning, files_text, particulars_text, verdict, BEFORE_RULES, BEFORE_STYLE, BODY, HEAD}
 use Rattle.report.specs.declared.RoleConflict.{RoleConflict}
-use Rattle.report_page.specs.declared.frame.TheConstants.{BEFORE_RULES, BEFORE_STYLE, BODY, HEAD}
 use Rattle.report_page.specs.declared.style.TheConstants.{STYLE}
 use Rattle.report_page.proofs.page.write_head.Goals as goal
 

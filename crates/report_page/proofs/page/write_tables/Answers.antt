@@ -1,5 +1,4 @@
-use Rattle.report_page.proofs.Common.{◌++◌, ℕ, List, ap, map, refl, has_written_append, has_written_of_eq, count_words, table_rows, tool_rows}
-use Rattle.report_page.specs.declared.frame.TheConstants.{BEFORE_SCRIPT, CAPTION, COLUMNS, END, TOOL_COLUMNS}
+use Rattle.report_page.proofs.Common.{◌++◌, ℕ, List, ap, map, refl, has_written_append, has_written_of_eq, count_words, table_rows, tool_rows, BEFORE_SCRIPT, CAPTION, COLUMNS, END, TOOL_COLUMNS}
 use Rattle.report_page.specs.declared.script.TheConstants.{SCRIPT}
 use Rattle.report_page.proofs.page.write_tables.Goals as goal
 

@@ -1,6 +1,4 @@
-use Rattle.report_page.proofs.Common.{◌≡◌, has_written_of_eq}
-use Rattle.std.proofs.Common.{of_z, rules, to_z, to_z-of_z, w64}
-use Rattle.report_page.specs.Pages.{reason_words}
+use Rattle.report_page.proofs.Common.{◌≡◌, has_written_of_eq, of_z, rules, to_z, to_z-of_z, w64, reason_words}
 unfoldable use Rattle.report_page.specs.Pages.{gap_end}
 use Rattle.report_page.proofs.rows.write_gap_end.Goals as goal
 

@@ -1,5 +1,4 @@
-use Rattle.report_page.proofs.Common.{◌≡◌, ◌∙◌, ◌<◌, ◌≤◌, ◌+◌, ◌++◌, ℕ, List, Option, ap, ap₂, get_or, length, map, refl, subst, sym, take, Bor, enumerate_from, has_written_append, has_written_of_eq, RingLack, marks_all, gap_row, gap_rows}
-use Rattle.report.specs.declared.GapLack.{GapLack}
+use Rattle.report_page.proofs.Common.{◌≡◌, ◌∙◌, ◌<◌, ◌≤◌, ◌+◌, ◌++◌, ℕ, List, Option, ap, ap₂, get_or, length, map, refl, subst, sym, take, Bor, enumerate_from, has_written_append, has_written_of_eq, RingLack, marks_all, gap_row, gap_rows, GapLack}
 use Rattle.report_page.proofs.RowLemmas.{gap_added}
 use Rattle.report_page.proofs.rows.write_gap_rows.Goals as goal
 

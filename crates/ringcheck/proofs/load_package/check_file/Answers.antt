@@ -5,7 +5,7 @@ use Rattle.ringcheck.proofs.load_package.check_file.Goals as goal
 
 -- no piece so far
 no_piece : (sink : CheckSink) → CopperGoesOn sink sink []
-no_piece sink = λ first index layer span text h. subst (HasOpenedCopper first sink.check index layer span sink.file) (sym (append-nil text)) h
+no_piece sink = λ first index layer said text h. subst (HasOpenedCopper first sink.check index layer said sink.file) (sym (append-nil text)) h
 
 pub returns-in_ok-end-in-Ok-None-clause-taken : goal.returns-in_ok-end-in-Ok-None-clause-taken
 returns-in_ok-end-in-Ok-None-clause-taken g c = λ copper.
@@ -16,13 +16,13 @@ returns-in_ok-end-in-Ok-None-clause-taken g c = λ copper.
     let read_in = setting_of before in
     let (bytes, held, goes_on) = rw (c.in-Ok-None.is, c.in-Ok-None.field-0-is) at c.hand_file.ensures.loaded in
     let start : CheckSink = record { check = c.begin-file.new.self; file = c.begin-file.result } in
-    let opened = goes_on start [] (no_piece start) before index layer entry.span [] c.begin-file.ensures in
+    let opened = goes_on start [] (no_piece start) before index layer entry.said [] c.begin-file.ensures in
     let ended = c.in_ok-end-in-Ok-None.ensures in (
       (
         bytes,
         held,
-        subst (λ (s : FileView). TakesCopper before c.end.new.self index layer s) (λ j. let s : FileView = record { role = sym (role_copper entry.role copper) j; name = entry.name; span = entry.span; bytes = bytes; setting = read_in } in s)
-            (ended.stands before index layer entry.span bytes entry.name opened),
+        subst (λ (s : FileView). TakesCopper before c.end.new.self index layer s) (λ j. let s : FileView = record { role = sym (role_copper entry.role copper) j; name = entry.name; said = entry.said; bytes = bytes; setting = read_in } in s)
+            (ended.stands before index layer entry.said bytes entry.name opened),
       ),
       ended.setting ∙ (λ j. let s : Setting = record { layers = opened.same_layers j; profile = (opened.same_rules j).profile } in s),
     )

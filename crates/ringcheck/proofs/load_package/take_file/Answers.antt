@@ -5,7 +5,7 @@ use Rattle.ringcheck.proofs.load_package.take_file.Goals as goal
 
 -- no piece so far
 no_piece : (file : OpenFile) → GoesOn file file []
-no_piece file = λ reader index of span text h. subst (HasOpened reader index of span file) (sym (append-nil text)) h
+no_piece file = λ reader index of said text h. subst (HasOpened reader index of said file) (sym (append-nil text)) h
 
 pub returns-in_ok-end-in-Ok-None-clause-taken : goal.returns-in_ok-end-in-Ok-None-clause-taken
 returns-in_ok-end-in-Ok-None-clause-taken g c =
@@ -14,5 +14,5 @@ returns-in_ok-end-in-Ok-None-clause-taken g c =
     let start : FileSink = record { file = c.begin-file.result } in (
       loaded.0,
       loaded.1,
-      c.in_ok-end-in-Ok-None.ensures.stands c.args.index entry.role entry.span loaded.0 entry.name (loaded.2 start [] (no_piece c.begin-file.result) c.args.reader.now c.args.index entry.role entry.span [] c.begin-file.ensures),
+      c.in_ok-end-in-Ok-None.ensures.stands c.args.index entry.role entry.said loaded.0 entry.name (loaded.2 start [] (no_piece c.begin-file.result) c.args.reader.now c.args.index entry.role entry.said [] c.begin-file.ensures),
     )

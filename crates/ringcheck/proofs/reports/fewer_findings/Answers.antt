@@ -17,7 +17,7 @@ of_strict format.Waivers Wide b h = absurd cc
 -- files that are read in the strict profile
 read_strictly : (all : List FileView) → AllByRecursion (λ source. source.setting.profile ≡ Strict) all → all ≡ map (read_in Strict) all
 read_strictly [] h = refl
-read_strictly (s ∷ ss) h = ap₂ (λ (x : FileView) (xs : List FileView). x ∷ xs) (ap (λ (p : Profile). read_in p s) h.0) (read_strictly ss h.1)
+read_strictly (s ∷ ss) h = ap₂ (λ (x : FileView) (xs : List FileView). x ∷ xs) (ap (λ (p : Profile). let t : FileView = record { role = s.role; name = s.name; said = s.said; bytes = s.bytes; setting = record { layers = s.setting.layers; profile = p } } in t) h.0) (read_strictly ss h.1)
 
 pub returns-then-not-asks_wide : goal.returns-then-not-asks_wide
 returns-then-not-asks_wide c all read flashed made =

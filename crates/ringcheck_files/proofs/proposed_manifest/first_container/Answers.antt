@@ -1,5 +1,4 @@
-use Rattle.ringcheck_files.proofs.Common.{◌∙◌, sym}
-use Rattle.std.proofs.lemmas.Option.{IfSome_then}
+use Rattle.ringcheck_files.proofs.Common.{◌∙◌, sym, IfSome_then}
 use Rattle.ringcheck_files.proofs.ManifestStatus.{all_are, not_all, said_first}
 use Rattle.ringcheck_files.proofs.proposed_manifest.first_container.Goals as goal
 

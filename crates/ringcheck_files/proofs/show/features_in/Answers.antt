@@ -1,5 +1,4 @@
-use Rattle.ringcheck_files.proofs.Common.{ap, ◌∙◌}
-use Rattle.layer_features.specs.Features.{view_in}
+use Rattle.ringcheck_files.proofs.Common.{ap, ◌∙◌, view_in}
 use Rattle.ringcheck_files.proofs.Pieces.{ok_more, viewed}
 use Rattle.ringcheck_files.proofs.show.features_in.Goals as goal
 

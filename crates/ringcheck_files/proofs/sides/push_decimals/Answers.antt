@@ -1,8 +1,7 @@
-use Rattle.ringcheck_files.proofs.Common.{rules, arith, ◌≡◌, ◌∙◌, ◌++◌, ◌∷◌, ℕ, List, length, pos, ap, subst, millimetres, places}
+use Rattle.ringcheck_files.proofs.Common.{rules, arith, ◌≡◌, ◌∙◌, ◌++◌, ◌∷◌, ℕ, List, length, pos, ap, subst, millimetres, places, below_one}
 use Rattle.std.specs.Prelude.{MatchOption}
 use Rattle.std.proofs.lemmas.Str.Pattern.{strip_prefix_char}
 use Rattle.grid_units.proofs.TrailingZeros.{length-places}
-use Rattle.grid_units.proofs.Spelled.{below_one}
 use Rattle.ringcheck_files.proofs.SideLemmas.{behind_zero}
 use Rattle.ringcheck_files.proofs.sides.push_decimals.Goals as goal
 

@@ -1,9 +1,4 @@
-use Rattle.ringcheck_files.proofs.Common.{◌≡◌, all_words, bytes_eq, list_all, map, reason_name, refl, rules, tests, true}
-use Rattle.std.specs.Slice.Iter.{iter_rest}
-use Rattle.std.proofs.lemmas.Iterator.{YieldsList-from_slice}
-use Rattle.std.proofs.lemmas.Iterator.Consumers.{YieldsList-at, YieldsList-from_copied}
-use Rattle.std.proofs.lemmas.Iterator.Search.{find_from_yields_List}
-use Rattle.std.proofs.lemmas.Option.{IfSome_then}
+use Rattle.ringcheck_files.proofs.Common.{◌≡◌, all_words, bytes_eq, list_all, map, reason_name, refl, rules, tests, true, iter_rest, YieldsList-from_slice, YieldsList-at, YieldsList-from_copied, find_from_yields_List, IfSome_then}
 use Rattle.ringcheck_files.proofs.PageLemmas.{has_page, heading, is_page, page_is, texts, word_of}
 use Rattle.ringcheck_files.proofs.word_list.explanation.Goals as goal
 

@@ -1,8 +1,4 @@
-use Rattle.ringcheck_files.proofs.Common.{◌≡◌, all_words, false≢true, list_all, map, reason_name, refl, rules, str_eq_ignore_ascii_case, tests, true}
-use Rattle.std.specs.Slice.Iter.{iter_rest}
-use Rattle.std.proofs.lemmas.Iterator.{YieldsList-from_slice}
-use Rattle.std.proofs.lemmas.Iterator.Consumers.{YieldsList-at, YieldsList-from_copied}
-use Rattle.std.proofs.lemmas.Iterator.Search.{find_from_yields_List}
+use Rattle.ringcheck_files.proofs.Common.{◌≡◌, all_words, false≢true, list_all, map, reason_name, refl, rules, str_eq_ignore_ascii_case, tests, true, iter_rest, YieldsList-from_slice, YieldsList-at, YieldsList-from_copied, find_from_yields_List}
 use Rattle.ringcheck_files.proofs.PageLemmas.{heading, is_page, page_in_any_case, page_of_itself, texts, word_of}
 use Rattle.ringcheck_files.proofs.word_list.explanation_in_any_case.Goals as goal
 

@@ -1,8 +1,4 @@
-use Rattle.ringcheck_files.proofs.Common.{◌≡◌, ◌∙◌, all_words, ap, find, is_near, list_all, map, reason_name, refl, rules, tests, true}
-use Rattle.std.specs.Slice.Iter.{iter_rest}
-use Rattle.std.proofs.lemmas.Iterator.{YieldsList-from_slice, YieldsList-from_map_by}
-use Rattle.std.proofs.lemmas.Iterator.Consumers.{YieldsList-at}
-use Rattle.std.proofs.lemmas.Iterator.Search.{find_from_yields_List}
+use Rattle.ringcheck_files.proofs.Common.{◌≡◌, ◌∙◌, all_words, ap, find, is_near, list_all, map, reason_name, refl, rules, tests, true, iter_rest, YieldsList-from_slice, YieldsList-from_map_by, YieldsList-at, find_from_yields_List}
 use Rattle.ringcheck_files.proofs.PageLemmas.{heading, is_page, same_words, texts, word_of}
 use Rattle.ringcheck_files.proofs.word_list.near_word.Goals as goal
 

@@ -1,5 +1,4 @@
-use Rattle.waivers.proofs.Common.{◌≡◌, ◌∙◌, Some, None, sym, if◌then◌else◌, bytes_eq}
-use Rattle.std.specs.Option.{option_or}
+use Rattle.waivers.proofs.Common.{◌≡◌, ◌∙◌, Some, None, sym, if◌then◌else◌, bytes_eq, option_or}
 use Rattle.waivers.proofs.FirstPlaces.{first_more}
 use Rattle.waivers.proofs.keys.first_places.Goals as goal
 

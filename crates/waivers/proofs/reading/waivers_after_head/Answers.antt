@@ -1,6 +1,5 @@
-use Rattle.waivers.proofs.Common.{◌≡◌, sym, rules, true, arith, err_from_is_err_and}
+use Rattle.waivers.proofs.Common.{◌≡◌, sym, rules, true, arith, err_from_is_err_and, fields_of}
 use Rattle.std.specs.Result.{is_ok}
-use Rattle.csv.specs.Records.{fields_of}
 use Rattle.manifest.proofs.EntryLoop.{map_split, length_map_take, one_more}
 use Rattle.waivers.proofs.RecordLemmas.{accepted_more, refused}
 use Rattle.waivers.proofs.reading.waivers_after_head.Goals as goal

@@ -1,6 +1,4 @@
-use Rattle.waivers.proofs.Common.{◌≡◌, map, take, [], waiver_of}
-use Rattle.csv.specs.Records.{fields_of}
-use Rattle.grid_units.specs.Lists.{violations}
+use Rattle.waivers.proofs.Common.{◌≡◌, map, take, [], waiver_of, fields_of, violations}
 use Rattle.waivers.proofs.RecordLemmas.{rule}
 use Rattle.waivers.proofs.reading.waivers_after_head.Given as goal
 

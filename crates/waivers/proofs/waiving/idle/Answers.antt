@@ -1,6 +1,5 @@
 use Rattle.std.specs.Prelude.{◌≡◌, ℕ, List}
-use Rattle.waivers.proofs.Common.{◌∙◌, IfOk-weaker, unused_numbers, IsWaived, report_fields, idle_numbers}
-use Rattle.report.specs.declared.BoardReport.{BoardReport}
+use Rattle.waivers.proofs.Common.{◌∙◌, IfOk-weaker, unused_numbers, IsWaived, report_fields, idle_numbers, BoardReport}
 use Rattle.waivers.proofs.IdlePlaces.{unused_is_idle}
 use Rattle.waivers.proofs.waiving.idle.Goals as goal
 

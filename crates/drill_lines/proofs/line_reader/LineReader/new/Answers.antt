@@ -1,4 +1,4 @@
-use Rattle.std.proofs.Common.{refl}
+use Rattle.drill_lines.proofs.Common.{refl}
 use Rattle.drill_lines.proofs.RouteLemmas.{starts_free}
 use Rattle.drill_lines.proofs.line_reader.LineReader.new.Goals as goal
 

@@ -1,7 +1,4 @@
-use Rattle.std.proofs.Common.{ℕ, List, subst}
-use Rattle.grid_units.specs.declared.profile.Profile.TheVariants.{Wide}
-use Rattle.drill_lines.specs.LineReading.{ReadsLine}
-use Rattle.drill_lines.specs.Lines.{without_end_blanks}
+use Rattle.drill_lines.proofs.Common.{ℕ, List, subst, Wide, ReadsLine, without_end_blanks}
 use Rattle.drill_lines.proofs.RouteLemmas.{strict_answers, wide_answers}
 use Rattle.drill_lines.proofs.line_reader.LineReader.read.Goals as goal
 

@@ -1,8 +1,5 @@
 -- The operation is judged, and its flashes are those that the judge has added.
-use Rattle.layer_image.proofs.Common.{◌++◌, ◌∙◌, List, ap, refl, subst, sym, err_from_is_err_and, Command, passed_entries, without_places, flashes_of, without_flashes, HasMet}
-use Rattle.gerber_commands.specs.Rows.{modes_of}
-use Rattle.gerber_commands.specs.declared.command.Command.TheVariants.{Operate}
-use Rattle.layer_state.specs.Shapes.{defined_numbered}
+use Rattle.layer_image.proofs.Common.{◌++◌, ◌∙◌, List, ap, refl, subst, sym, err_from_is_err_and, Command, passed_entries, without_places, flashes_of, without_flashes, HasMet, modes_of, Operate, defined_numbered}
 use Rattle.layer_features.proofs.CopperLemmas.{same_with_mode}
 use Rattle.layer_image.proofs.MetLemmas.{after_operation, all_dropped, flashes_with_mode, own_flashes}
 use Rattle.layer_image.proofs.met.Met.add_operation.Goals as goal

@@ -1,6 +1,5 @@
 -- The command is judged, and its flashes are those that the judge has added.
-use Rattle.layer_image.proofs.Common.{List, [], ◌∷◌, ◌++◌, ◌∙◌, ap, refl, subst, sym, err_from_is_err_and, Command, without_places, flashes_of, without_flashes, HasMet}
-use Rattle.layer_state.specs.Shapes.{defined_numbered}
+use Rattle.layer_image.proofs.Common.{List, [], ◌∷◌, ◌++◌, ◌∙◌, ap, refl, subst, sym, err_from_is_err_and, Command, without_places, flashes_of, without_flashes, HasMet, defined_numbered}
 use Rattle.layer_image.proofs.MetLemmas.{all_dropped, next_entry, own_flashes}
 use Rattle.layer_image.proofs.met.Met.take_command.Goals as goal
 

@@ -1,9 +1,5 @@
 -- The operation is judged, and its flashes are those that the judge has added.
-use Rattle.layer_image.proofs.Common.{◌≡◌, ◌++◌, ◌∷◌, ◌∙◌, [], List, Option, ap, refl, subst, sym, append-nil, err_from_is_err_and, Command, passed_entries, without_places, flashes_of, without_flashes, HasMet, current_of, state_after}
-use Rattle.gerber_commands.specs.Rows.{modes_of}
-use Rattle.gerber_commands.specs.declared.command.Interpolation.{Interpolation}
-use Rattle.std.specs.Option.{option_and_then}
-use Rattle.layer_features.specs.CopperHolding.{IsPassed}
+use Rattle.layer_image.proofs.Common.{◌≡◌, ◌++◌, ◌∷◌, ◌∙◌, [], List, Option, ap, refl, subst, sym, append-nil, err_from_is_err_and, Command, passed_entries, without_places, flashes_of, without_flashes, HasMet, current_of, state_after, modes_of, Interpolation, option_and_then, IsPassed}
 use Rattle.layer_features.specs.Inner.Plotters.{selection_after}
 use Rattle.layer_features.specs.Inner.States.{command_of}
 use Rattle.layer_state.specs.declared.current.Current.{Current}

@@ -5,17 +5,17 @@ use Rattle.package_check.proofs.CheckSteps.{layer_put, puts_none, same_slots}
 use Rattle.package_check.proofs.checking.PackageCheck.put_file.Goals as goal
 
 pub returns-in_err-judged-clause-read : goal.returns-in_err-judged-clause-read
-returns-in_err-judged-clause-read c = λ span text h free.
+returns-in_err-judged-clause-read c = λ said text h free.
     let p = err_from_is_err_and c.from_residual.result c.from_residual.ensures.1 in
     let old = c.args.self.now in
     let file = c.args.file in
     let e = c.in_err-judged.field-0.0 in
-    let source = unnamed_file role.Copper span (setting_of old) text in
-    let read = subst (λ (v : CheckView). HasReadCopper (holes_of v) file.layer span old.layers file.reading text) (sym c.self.view_is) h in
-    let fault = subst (λ (v : CheckView). Answers {T = Judged} (λ one. one) (Judges v.rules v.holes file.layer (unnamed_file role.Copper span (record { layers = old.layers; profile = v.rules.profile }) text)) (Err e)) c.self.view_is (c.in_err-judged.ensures.judged span old.layers text read) in
+    let source = unnamed_file role.Copper said (setting_of old) text in
+    let read = subst (λ (v : CheckView). HasReadCopper (holes_of v) file.layer said old.layers file.reading text) (sym c.self.view_is) h in
+    let fault = subst (λ (v : CheckView). Answers {T = Judged} (λ one. one) (Judges v.rules v.holes file.layer (unnamed_file role.Copper said (record { layers = old.layers; profile = v.rules.profile }) text)) (Err e)) c.self.view_is (c.in_err-judged.ensures.judged said old.layers text read) in
     rw (p.1, p.2)
     (subst (λ (ss : List (Option Judged)). ReadsInto {X = Judged} (λ one. Judges old.rules old.holes file.layer source (Ok one)) file.index source old.slots ss (Err e)) (sym (ap (λ (v : CheckView). v.slots) c.self.view_is))
-    (puts_none old.rules old.holes file.layer file.index old.layers span text old.slots e fault))
+    (puts_none old.rules old.holes file.layer file.index old.layers said text old.slots e fault))
 
 pub invariant_of-self : goal.invariant_of-self
 invariant_of-self c = c.self.invariant ∙ ap (λ (hs : List Drilled). length hs) (sym c.finish.ensures.holes)
@@ -31,12 +31,12 @@ invariant_of-self-2 c =
     layer_put inside.slots.items c.put.new.slots.items index c.in_ok-judged.judged c.in_ok-put.ensures.put free c.in_ok-judged.ensures.layer ∙ (c.self.invariant ∙ ap (λ (hs : List Drilled). length hs) (sym c.finish.ensures.holes))
 
 pub returns-clause-read : goal.returns-clause-read
-returns-clause-read c = λ span text h free.
+returns-clause-read c = λ said text h free.
     let old = c.args.self.now in
     let file = c.args.file in
     let one = c.in_ok-judged.judged in
-    let read = subst (λ (v : CheckView). HasReadCopper (holes_of v) file.layer span old.layers file.reading text) (sym c.self.view_is) h in (
+    let read = subst (λ (v : CheckView). HasReadCopper (holes_of v) file.layer said old.layers file.reading text) (sym c.self.view_is) h in (
       one,
-      subst (λ (v : CheckView). Judges v.rules v.holes file.layer (unnamed_file role.Copper span (record { layers = old.layers; profile = v.rules.profile }) text) (Ok one)) c.self.view_is (c.in_ok-judged.ensures.judged span old.layers text read),
+      subst (λ (v : CheckView). Judges v.rules v.holes file.layer (unnamed_file role.Copper said (record { layers = old.layers; profile = v.rules.profile }) text) (Ok one)) c.self.view_is (c.in_ok-judged.ensures.judged said old.layers text read),
       subst (λ (v : CheckView). IsPutAt file.index one v.slots c.put.new.slots.items) c.self.view_is c.in_ok-put.ensures.put,
     )

@@ -3,7 +3,7 @@ use Rattle.package_check.specs.CheckViews.{holes_of}
 use Rattle.package_check.proofs.checking.PackageCheck.take_piece.Goals as goal
 
 pub returns : goal.returns
-returns c = λ start index layer span text h.
+returns c = λ start index layer said text h.
     let file = c.args.file.now in
     let view = c.self.view_is in
     let inside = c.self.inside in
@@ -18,7 +18,7 @@ returns c = λ start index layer span text h.
       same_stop = ap (λ (v : CheckView). v.stopped) view ∙ h.same_stop;
       reads = λ on.
           let was = h.reads (sym (ap (λ (v : CheckView). is_wanted v.stopped index) view) ∙ on) in
-          let within = subst (λ (v : CheckView). HasReadCopper (holes_of v) layer span v.layers file.reading text) (sym view) was in
-          let own = subst (λ (k : ℕ). HasReadCopper inside.holes k span inside.layers file.reading text) (sym h.same_layer) within in
-          subst (λ (k : ℕ). HasReadCopper c.read.new.holes k span inside.layers after.reading (text ++ c.args.piece.now)) h.same_layer (c.read.ensures.read span inside.layers text own);
+          let within = subst (λ (v : CheckView). HasReadCopper (holes_of v) layer said v.layers file.reading text) (sym view) was in
+          let own = subst (λ (k : ℕ). HasReadCopper inside.holes k said inside.layers file.reading text) (sym h.same_layer) within in
+          subst (λ (k : ℕ). HasReadCopper c.read.new.holes k said inside.layers after.reading (text ++ c.args.piece.now)) h.same_layer (c.read.ensures.read said inside.layers text own);
     }

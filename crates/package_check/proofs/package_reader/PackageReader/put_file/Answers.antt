@@ -10,7 +10,7 @@ stays keep index s slots (fails.Refused fault) h = (h, refl)
 pub returns-in-Err-clause-read : goal.returns-in-Err-clause-read
 returns-in-Err-clause-read c = λ text h.
     let file = c.args.file in
-    let now = c.args.self.now in stays now.keep file.index (unnamed_file file.role file.span (setting_of now) text) now.slots.items c.in-Err.fail (c.in-Err.ensures.content file.role (setting_of now) text h)
+    let now = c.args.self.now in stays now.keep file.index (unnamed_file file.role file.said (setting_of now) text) now.slots.items c.in-Err.fail (c.in-Err.ensures.content file.role (setting_of now) text h)
 
 pub returns-in_ok-put-in-Ok-clause-read : goal.returns-in_ok-put-in-Ok-clause-read
 returns-in_ok-put-in-Ok-clause-read c = λ text h.

@@ -8,5 +8,5 @@ pub returns-clause-stands : goal.returns-clause-stands
 returns-clause-stands c = λ copper.
     let file = c.args.self.now in
     subst (λ (source : FileView). OnOk c.take.result (TakesCopper c.args.check.now c.take.new.self c.args.index c.args.layer source))
-    (λ j. let s : FileView = record { role = sym (role_copper file.role copper) j; name = file.name.now; span = file.span; bytes = joined file.pieces.now; setting = setting_of c.args.check.now } in s)
+    (λ j. let s : FileView = record { role = sym (role_copper file.role copper) j; name = file.name.now; said = file.said; bytes = joined file.pieces.now; setting = setting_of c.args.check.now } in s)
     (c.take.ensures.stands file.name.now)

@@ -1,5 +1,4 @@
-use Rattle.report_page.proofs.Common.{ap, sym, has_written_of_eq}
-use Rattle.report_page.specs.Pages.{file_counts}
+use Rattle.report_page.proofs.Common.{ap, sym, has_written_of_eq, file_counts}
 use Rattle.report_page.proofs.files.FileCountsDisplay.fmt.Goals as goal
 
 pub returns-in-Mixed-clause-writes : goal.returns-in-Mixed-clause-writes

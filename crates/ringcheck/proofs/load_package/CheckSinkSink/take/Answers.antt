@@ -7,5 +7,5 @@ pub returns : goal.returns
 returns c = λ start text h.
     let piece = c.args.piece.now in
     let now : CheckSink = record { check = c.take_piece.new.self; file = c.take_piece.new.file } in
-    on_ok c.take_piece.result (CopperGoesOn start now (text ++ piece)) (λ first index layer span before opened.
-    subst (HasOpenedCopper first now.check index layer span now.file) (append_assoc before text piece) (c.take_piece.ensures first index layer span (before ++ text) (h first index layer span before opened)))
+    on_ok c.take_piece.result (CopperGoesOn start now (text ++ piece)) (λ first index layer said before opened.
+    subst (HasOpenedCopper first now.check index layer said now.file) (append_assoc before text piece) (c.take_piece.ensures first index layer said (before ++ text) (h first index layer said before opened)))

@@ -6,5 +6,5 @@ pub returns : goal.returns
 returns c = λ start text h.
     let piece = c.args.piece.now in
     let now = c.take.new.self in
-    on_ok c.take.result (GoesOn start.file now (text ++ piece)) (λ reader index of span before opened.
-    subst (HasOpened reader index of span now) (append_assoc before text piece) (c.take.ensures reader index of span (before ++ text) (h reader index of span before opened)))
+    on_ok c.take.result (GoesOn start.file now (text ++ piece)) (λ reader index of said before opened.
+    subst (HasOpened reader index of said now) (append_assoc before text piece) (c.take.ensures reader index of said (before ++ text) (h reader index of said before opened)))

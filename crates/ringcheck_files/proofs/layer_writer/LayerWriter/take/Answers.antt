@@ -1,5 +1,4 @@
-use Rattle.ringcheck_files.proofs.Common.{◌++◌, subst, err_from_is_err_and, Strict, Entries, HoldsLines}
-use Rattle.gerber_text.specs.Holding.{held_entries}
+use Rattle.ringcheck_files.proofs.Common.{◌++◌, subst, err_from_is_err_and, Strict, Entries, HoldsLines, held_entries}
 use Rattle.ringcheck_files.proofs.WriterLemmas.{stops}
 use Rattle.ringcheck_files.proofs.layer_writer.LayerWriter.take.Goals as goal
 

@@ -1,5 +1,4 @@
-use Rattle.waivers.proofs.Common.{◌≡◌, ◌++◌, ℕ, List, IsUtf8, length, default_writer, escaped}
-use Rattle.std.specs.Fmt.{HasWritten, IsPlainFormatter}
+use Rattle.waivers.proofs.Common.{◌≡◌, ◌++◌, ℕ, List, IsUtf8, length, default_writer, escaped, HasWritten, IsPlainFormatter}
 use Rattle.waivers.proofs.findings.EscapedDisplay.fmt.Given as goal
 
 abbrev pub invariant-quotes : goal.invariant-quotes

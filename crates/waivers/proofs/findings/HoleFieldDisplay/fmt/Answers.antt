@@ -1,5 +1,4 @@
-use Rattle.waivers.proofs.Common.{◌∙◌, ◌++◌, ◌∷◌, [], List, ℕ, ap, codes, map, sym, has_written_of_eq, default_writer, escaped}
-use Rattle.grid_units.specs.HoleWords.{drilled_words, name_of}
+use Rattle.waivers.proofs.Common.{◌∙◌, ◌++◌, ◌∷◌, [], List, ℕ, ap, codes, map, sym, has_written_of_eq, default_writer, escaped, drilled_words, name_of}
 use Rattle.waivers.proofs.Quoted.{hole_quoted}
 use Rattle.waivers.proofs.findings.HoleFieldDisplay.fmt.Goals as goal
 
