@@ -397,6 +397,12 @@ class Slow:
                 found.append(self.primitive(piece, variables))
         if not found:
             raise self.w.NotJudged
+        return self.judged(found)
+
+    def judged(self, found):
+        """The primitives of a macro, unless one of them is a dented outline: then it is not judged."""
+        if any(isinstance(it, self.w.Outline) and self.w.convex(it.points) is None for it in found):
+            raise self.w.NotJudged
         return found
 
     def primitive(self, piece, variables):
@@ -470,7 +476,7 @@ class Slow:
         def read_drill(data, mixed):
             return self.read_drill(data, mixed, next(drills))
 
-        with changed(self.w, read_layer=self.read_layer, read_drill=read_drill, held=held):
+        with changed(self.w, read_layer=self.read_layer, read_drill=read_drill, held=held, primitives=lambda *words: self.judged(self.primitives_before(*words))):
             text, report = self.w.check(files, rules, "wide")
         return files, (text, report)
 
