@@ -422,14 +422,14 @@ class Slow:
 
     # Drill files
 
-    def read_drill(self, text, mixed=False, said=NOTHING_SAID):
-        return self.read_once((text, mixed, said), lambda: self.read_drill_anew(text, mixed, said))
+    def read_drill(self, text, mixed=False, said=NOTHING_SAID, unplated=False):
+        return self.read_once((text, mixed, said, unplated), lambda: self.read_drill_anew(text, mixed, said, unplated))
 
-    def read_drill_anew(self, text, mixed, said):
+    def read_drill_anew(self, text, mixed, said, unplated):
         """As the slow program reads it, and the rows."""
         if len(text) > self.o.MAX_FILE:
             return self.w.WideDrill(self.o.read_drill(text).holes(), [], [])
-        reader = DrillReader(self, mixed, said)
+        reader = DrillReader(self, mixed, said, unplated)
         lines = text.split(b"\n")
         last = lines.pop()
         if last:
@@ -471,21 +471,27 @@ class Slow:
         for entry, _ in entries:
             with open(os.path.join(folder, os.fsdecode(entry.file)), "rb") as it:
                 files.append((entry.role, entry.name, it.read(), entry.span))
-        drills = iter([what for entry, what in entries if entry.role != "copper"])
+        drills = iter([(what, entry.role == "unplated") for entry, what in entries if entry.role != "copper"])
 
         def read_drill(data, mixed):
-            return self.read_drill(data, mixed, next(drills))
+            return self.read_drill(data, mixed, *next(drills))
 
         with changed(self.w, read_layer=self.read_layer, read_drill=read_drill, held=held, primitives=lambda *words: self.judged(self.primitives_before(*words))):
             text, report = self.w.check(files, rules, "wide")
         return files, (text, report)
 
 
+def says_plated(comment):
+    """Whether a comment, without its `;`, says that holes are plated."""
+    fields = comment.lstrip(b" ").split(b",")
+    return comment == b"TYPE=PLATED" or (fields[0] in (b"#@! TA.AperFunction", b"#@! TF.FileFunction") and fields[1:2] == [b"Plated"])
+
+
 class DrillReader:
     """Reads a drill file line by line."""
 
-    def __init__(self, slow, mixed, said):
-        self.slow, self.w, self.o, self.rows, self.mixed = slow, slow.w, slow.o, slow.rows, mixed
+    def __init__(self, slow, mixed, said, unplated):
+        self.slow, self.w, self.o, self.rows, self.mixed, self.unplated = slow, slow.w, slow.o, slow.rows, mixed, unplated
         self.before, self.placed, self.holes, self.plated = slow.o.DrillBefore(), [], [], []
         self.route, self.ends, self.plating, self.plating_of_tool, self.stopped = "off", [], "none", {}, False
         self.before.unit, self.before.pattern, self.before.zeros = said
@@ -563,6 +569,8 @@ class DrillReader:
         reason = self.o.drill_rule(self.before, command)
         if reason:
             raise self.o.Refused(reason)
+        if self.unplated and isinstance(command, self.o.Comment) and says_plated(command.text):
+            raise self.w.Refused2("PlatingConflict")
         if self.mixed:
             self.judge_plating(command)
         if isinstance(command, (self.o.Hit, self.o.Slot)):

@@ -3,7 +3,7 @@ _ringcheck() {
   local word=${COMP_WORDS[COMP_CWORD]} before=${COMP_WORDS[COMP_CWORD - 1]} command=${COMP_WORDS[1]} options=
   COMPREPLY=()
   if [ "$COMP_CWORD" -eq 1 ]; then
-    mapfile -t COMPREPLY < <(compgen -W 'check report measure draw manifest explain show rewrite help --help --version' -- "$word")
+    mapfile -t COMPREPLY < <(compgen -W 'check report measure draw certify verify manifest explain show rewrite help --help --version' -- "$word")
     return
   fi
   # The shell cuts `--kind=layer` at its sign.
@@ -40,10 +40,11 @@ _ringcheck() {
     --ring | --gap | --max) return ;;
   esac
   case $command in
-    check) options='--ring --gap --profile --in --help' ;;
+    check | certify) options='--ring --gap --profile --in --help' ;;
     draw) options='--ring --gap --profile --outline --in --help' ;;
     report) options='--ring --gap --profile --max --waive --outline --format --exit-zero --in --help' ;;
     measure) options='--profile --format --in --help' ;;
+    verify) options='--in --help' ;;
     manifest) options='--why --profile --in --help' ;;
     show) options='--kind --profile --in --help' ;;
     rewrite) options='--kind --in --help' ;;
@@ -52,7 +53,7 @@ _ringcheck() {
       return
       ;;
     help)
-      mapfile -t COMPREPLY < <(compgen -W 'check report measure draw manifest explain show rewrite' -- "$word")
+      mapfile -t COMPREPLY < <(compgen -W 'check report measure draw certify verify manifest explain show rewrite' -- "$word")
       return
       ;;
     *) return ;;

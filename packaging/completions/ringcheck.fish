@@ -1,10 +1,12 @@
 # Completion of ringcheck for fish.
-set -l first 'not __fish_seen_subcommand_from check report measure draw manifest explain show rewrite help'
+set -l first 'not __fish_seen_subcommand_from check report measure draw certify verify manifest explain show rewrite help'
 complete -c ringcheck -f
 complete -c ringcheck -n $first -a check -d 'the rings and gaps of a package'
 complete -c ringcheck -n $first -a report -d 'each finding, how far below the rule, and why'
 complete -c ringcheck -n $first -a measure -d 'the largest ring and gap that a package meets'
 complete -c ringcheck -n $first -a draw -d 'a package as an SVG picture'
+complete -c ringcheck -n $first -a certify -d 'a check that prints a certificate of what passes'
+complete -c ringcheck -n $first -a verify -d 'whether a certificate still holds'
 complete -c ringcheck -n $first -a manifest -d 'a manifest of some files'
 complete -c ringcheck -n $first -a explain -d 'what a reason or a cause means, and what to change'
 complete -c ringcheck -n $first -a show -d "the table of a layer's flashes or of a drill file's holes"
@@ -14,11 +16,11 @@ complete -c ringcheck -s h -l help -d 'print help'
 complete -c ringcheck -n $first -s V -l version -d 'print the version'
 complete -c ringcheck -n '__fish_seen_subcommand_from manifest' -l why -d 'show what each file is taken for, and why'
 complete -c ringcheck -n '__fish_seen_subcommand_from explain' -a '(ringcheck explain 2>/dev/null | string replace ": " \t)'
-complete -c ringcheck -n '__fish_seen_subcommand_from help' -a 'check report measure draw manifest explain show rewrite'
-complete -c ringcheck -n '__fish_seen_subcommand_from check report draw' -l ring -x -d 'minimum annular ring, in mm'
-complete -c ringcheck -n '__fish_seen_subcommand_from check report draw' -l gap -x -d 'minimum distance between hole edges, in mm'
-complete -c ringcheck -n '__fish_seen_subcommand_from check report measure draw manifest show rewrite' -l in -x -a '(__fish_complete_directories)' -d 'the folder that file names are taken from'
-complete -c ringcheck -n '__fish_seen_subcommand_from check report measure draw manifest show' -l profile -x -a 'strict wide' -d 'which shapes are pads, and which files are read'
+complete -c ringcheck -n '__fish_seen_subcommand_from help' -a 'check report measure draw certify verify manifest explain show rewrite'
+complete -c ringcheck -n '__fish_seen_subcommand_from check report draw certify' -l ring -x -d 'minimum annular ring, in mm'
+complete -c ringcheck -n '__fish_seen_subcommand_from check report draw certify' -l gap -x -d 'minimum distance between hole edges, in mm'
+complete -c ringcheck -n '__fish_seen_subcommand_from check report measure draw certify verify manifest show rewrite' -l in -x -a '(__fish_complete_directories)' -d 'the folder that file names are taken from'
+complete -c ringcheck -n '__fish_seen_subcommand_from check report measure draw certify manifest show' -l profile -x -a 'strict wide' -d 'which shapes are pads, and which files are read'
 complete -c ringcheck -n '__fish_seen_subcommand_from report' -l max -x -d 'show at most this many findings'
 complete -c ringcheck -n '__fish_seen_subcommand_from report' -l exit-zero -d 'exit with status 0 even if there are findings'
 complete -c ringcheck -n '__fish_seen_subcommand_from report' -l waive -r -F -d 'the findings that are accepted'
@@ -27,4 +29,4 @@ complete -c ringcheck -n '__fish_seen_subcommand_from report measure' -l format 
 complete -c ringcheck -n '__fish_seen_subcommand_from report' -l format -x -a html -d 'a page with the picture and a table'
 complete -c ringcheck -n '__fish_seen_subcommand_from report' -l format -x -a waivers -d 'a file of waivers of all findings'
 complete -c ringcheck -n '__fish_seen_subcommand_from show rewrite' -l kind -x -a 'layer drill' -d 'what the file is'
-complete -c ringcheck -n '__fish_seen_subcommand_from check report measure draw manifest show rewrite' -F
+complete -c ringcheck -n '__fish_seen_subcommand_from check report measure draw certify verify manifest show rewrite' -F

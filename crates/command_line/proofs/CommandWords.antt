@@ -2,7 +2,7 @@
 use Rattle.command_line.proofs.Common.{◌≡◌, true, refl, [], ◌∷◌, Option, Some, None, codes, option_map, clap_on_literals, both, Text, fault_of, is_plain_if_some, is_plain_word, ringcheck_app}
 use Rattle.clap.specs.Words.{is_simple, is_simple_and_free}
 use Rattle.clap.specs.declared.error.kind.ErrorKind.TheVariants.{DisplayVersion}
-use Rattle.command_line.specs.ProgramArgs.{are_plain_rules, check_words, draw_words, explain_words, measure_words, rewrite_words, show_words}
+use Rattle.command_line.specs.ProgramArgs.{are_plain_rules, certify_words, check_words, draw_words, explain_words, measure_words, rewrite_words, rules_words, show_words, verify_words}
 use Rattle.command_line.proofs.GivenOptions.{Options, rows_of}
 use Rattle.command_line.proofs.NamedCommand.{IsCommand, answer, command_answer}
 
@@ -18,17 +18,38 @@ pub version_fault : fault_of ringcheck_app (codes "--version" ∷ []) ≡ Displa
 unfolding clap_on_literals
 version_fault = refl
 
--- ---- `check`
+-- ---- `check` and `certify`
 
-abbrev pub check_options : Text → Text → Option Text → Option Text → Text → Options
-check_options r g f i m = (codes "ring", Some r) ∷ (codes "gap", Some g) ∷ (codes "profile", f) ∷ (codes "in", i) ∷ (codes "manifest", Some m) ∷ []
+abbrev under_rules : Text → Text → Option Text → Option Text → Options
+under_rules r g f i = (codes "ring", Some r) ∷ (codes "gap", Some g) ∷ (codes "profile", f) ∷ (codes "in", i) ∷ []
+
+abbrev pub rules_options : Text → Text → Option Text → Option Text → Text → Options
+rules_options r g f i m = (codes "ring", Some r) ∷ (codes "gap", Some g) ∷ (codes "profile", f) ∷ (codes "in", i) ∷ (codes "manifest", Some m) ∷ []
+
+rules_answer : (name r g : Text) (f i : Option Text) (m : Text) → IsCommand name (under_rules r g f i) (codes "manifest") m
+    → is_plain_word r ≡ true → is_plain_word g ≡ true → is_plain_if_some f ≡ true → is_plain_if_some i ≡ true → is_plain_word m ≡ true
+    → answer (rules_words name r g f i m) ≡ (true, Some (name, rows_of (rules_options r g f i m)))
+rules_answer name r g f i m is p q t u s = command_answer name (under_rules r g f i) (codes "manifest") m is (p, (q, (t, (u, tt)))) s
 
 pub check_answer : (r g : Text) (f i : Option Text) (m : Text) → is_plain_word r ≡ true → is_plain_word g ≡ true → is_plain_if_some f ≡ true → is_plain_if_some i ≡ true → is_plain_word m ≡ true
-    → answer (check_words r g f i m) ≡ (true, Some (codes "check", rows_of (check_options r g f i m)))
+    → answer (check_words r g f i m) ≡ (true, Some (codes "check", rows_of (rules_options r g f i m)))
 unfolding clap_on_literals
-check_answer r g f i m p q t u s =
-    command_answer (codes "check") ((codes "ring", Some r) ∷ (codes "gap", Some g) ∷ (codes "profile", f) ∷ (codes "in", i) ∷ []) (codes "manifest") m
-    (record { named = (λ rest. refl, λ rest. refl); options = (refl, (refl, (refl, (refl, tt)))); end = refl; defaults = refl }) (p, (q, (t, (u, tt)))) s
+check_answer r g f i m = rules_answer (codes "check") r g f i m (record { named = (λ rest. refl, λ rest. refl); options = (refl, (refl, (refl, (refl, tt)))); end = refl; defaults = refl })
+
+pub certify_answer : (r g : Text) (f i : Option Text) (m : Text) → is_plain_word r ≡ true → is_plain_word g ≡ true → is_plain_if_some f ≡ true → is_plain_if_some i ≡ true → is_plain_word m ≡ true
+    → answer (certify_words r g f i m) ≡ (true, Some (codes "certify", rows_of (rules_options r g f i m)))
+unfolding clap_on_literals
+certify_answer r g f i m = rules_answer (codes "certify") r g f i m (record { named = (λ rest. refl, λ rest. refl); options = (refl, (refl, (refl, (refl, tt)))); end = refl; defaults = refl })
+
+-- ---- `verify`
+
+abbrev pub verify_options : Option Text → Text → Options
+verify_options i c = (codes "in", i) ∷ (codes "certificate", Some c) ∷ []
+
+pub verify_answer : (i : Option Text) (c : Text) → is_plain_if_some i ≡ true → is_plain_word c ≡ true → answer (verify_words i c) ≡ (true, Some (codes "verify", rows_of (verify_options i c)))
+unfolding clap_on_literals
+verify_answer i c u s =
+    command_answer (codes "verify") ((codes "in", i) ∷ []) (codes "certificate") c (record { named = (λ rest. refl, λ rest. refl); options = (refl, tt); end = refl; defaults = refl }) (u, tt) s
 
 -- ---- `measure`
 

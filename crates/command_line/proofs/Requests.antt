@@ -1,10 +1,11 @@
 -- The request of a line, from the command that the program finds and the rows of its values.
 use Rattle.command_line.proofs.Common.{◌≡◌, ◌∙◌, sym, refl, List, Option, Some, None, Bool, true, false, codes, option_map, bytes_eq, false≢true, bytes_eq-Decides, Row, Text, first_of, IsLineOf}
+use Rattle.command_line.specs.declared.CheckWords.{CheckWords}
 use Rattle.command_line.specs.declared.CommandLine.{CommandLine}
 use Rattle.command_line.specs.declared.Request.{Request}
-use Rattle.command_line.specs.declared.Request.TheVariants.{Check, Measure, Report, Draw, Show, Rewrite, Manifest, Explain}
-use Rattle.command_line.specs.ProgramArgs.{IsFlagValue, IsRequestOf, IsCheck, IsDraw, IsExplain, IsManifest, IsMeasure, IsReport, IsRewrite, IsShow}
-use Rattle.command_line.proofs.CommandWords.{check_options, draw_options, measure_options, rewrite_options, show_options, word_options}
+use Rattle.command_line.specs.declared.Request.TheVariants.{Check, Certify, Verify, Measure, Report, Draw, Show, Rewrite, Manifest, Explain}
+use Rattle.command_line.specs.ProgramArgs.{AreOptionsOf, HaveRules, IsFlagValue, IsRequestOf, IsCertify, IsCheck, IsDraw, IsExplain, IsManifest, IsMeasure, IsReport, IsRewrite, IsShow, IsVerify}
+use Rattle.command_line.proofs.CommandWords.{draw_options, measure_options, rewrite_options, rules_options, show_options, verify_options, word_options}
 use Rattle.command_line.proofs.GivenOptions.{first_is, rows_of}
 use Rattle.command_line.proofs.ManifestWords.{rows_of_manifest}
 use Rattle.command_line.proofs.ReportLine.{flag_is, report_options, rows_of_report, text_of, value_is}
@@ -21,15 +22,22 @@ pub on_line : (name : Text) (rows : List Row) (i : Option Text) (Is : Request �
     → IsLineOf (Some (name, rows)) line → (option_map (λ f. f.now) line.folder ≡ i) × Is line.request
 on_line name rows i Is line found is a = (sym a.0 ∙ found, is line.request a.1)
 
-pub is_check : (r g : Text) (f i : Option Text) (m : Text) (request : Request) → IsRequestOf (Some (codes "check", rows_of (check_options r g f i m))) request → IsCheck r g f m request
-is_check r g f i m (Check ring gap profile manifest) a =
-    let all = check_options r g f i m in (
-      some_is ring.now r (sym a.1 ∙ first_is (codes "ring") all),
-      some_is gap.now g (sym a.2 ∙ first_is (codes "gap") all),
-      sym a.3 ∙ first_is (codes "profile") all,
-      some_is manifest.now m (sym a.4 ∙ first_is (codes "manifest") all),
-    )
+have_rules : (r g : Text) (f i : Option Text) (m : Text) (options : CheckWords) → AreOptionsOf (rows_of (rules_options r g f i m)) options → HaveRules r g f options
+have_rules r g f i m options a =
+    let all = rules_options r g f i m in
+    (some_is options.ring.now r (sym a.0 ∙ first_is (codes "ring") all), some_is options.gap.now g (sym a.1 ∙ first_is (codes "gap") all), sym a.2 ∙ first_is (codes "profile") all)
+
+pub is_check : (r g : Text) (f i : Option Text) (m : Text) (request : Request) → IsRequestOf (Some (codes "check", rows_of (rules_options r g f i m))) request → IsCheck r g f m request
+is_check r g f i m (Check options manifest) a = (have_rules r g f i m options a.1, some_is manifest.now m (sym a.2 ∙ first_is (codes "manifest") (rules_options r g f i m)))
 is_check r g f i m request a = absurd (differ (codes "check") a.0 refl)
+
+pub is_certify : (r g : Text) (f i : Option Text) (m : Text) (request : Request) → IsRequestOf (Some (codes "certify", rows_of (rules_options r g f i m))) request → IsCertify r g f m request
+is_certify r g f i m (Certify options manifest) a = (have_rules r g f i m options a.1, some_is manifest.now m (sym a.2 ∙ first_is (codes "manifest") (rules_options r g f i m)))
+is_certify r g f i m request a = absurd (differ (codes "certify") a.0 refl)
+
+pub is_verify : (i : Option Text) (c : Text) (request : Request) → IsRequestOf (Some (codes "verify", rows_of (verify_options i c))) request → IsVerify c request
+is_verify i c (Verify certificate) a = some_is certificate.now c (sym a.1 ∙ first_is (codes "certificate") (verify_options i c))
+is_verify i c request a = absurd (differ (codes "verify") a.0 refl)
 
 pub is_measure : (p o i : Option Text) (m : Text) (request : Request) → IsRequestOf (Some (codes "measure", rows_of (measure_options p o i m))) request → IsMeasure p o m request
 is_measure p o i m (Measure profile format manifest) a =

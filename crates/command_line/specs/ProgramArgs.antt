@@ -7,9 +7,10 @@ use Rattle.clap.specs.Kinds.{IsAmong}
 use Rattle.clap.specs.declared.builder.action.ArgAction.TheVariants.{Append, Set, SetTrue}
 use Rattle.clap.specs.declared.error.kind.ErrorKind.{ErrorKind}
 use Rattle.clap.specs.declared.error.kind.ErrorKind.TheVariants.{DisplayHelp, DisplayVersion}
+use Rattle.command_line.specs.declared.CheckWords.{CheckWords}
 use Rattle.command_line.specs.declared.CommandLine.{CommandLine}
 use Rattle.command_line.specs.declared.Request.{Request}
-use Rattle.command_line.specs.declared.Request.TheVariants.{Check, Measure, Report, Draw, Show, Rewrite, Manifest, Explain}
+use Rattle.command_line.specs.declared.Request.TheVariants.{Check, Certify, Verify, Measure, Report, Draw, Show, Rewrite, Manifest, Explain}
 use Rattle.command_line.specs.declared.Refusal.{Refusal}
 use Rattle.command_line.specs.declared.Refusal.TheVariants.{Help, Version, Usage, Memory}
 
@@ -43,11 +44,23 @@ flag id = record (new_rule id) { long = Some id; action = Some SetTrue }
 abbrev pub folder_option : Rule
 folder_option = optional_option (codes "in")
 
+-- the command of a name that puts a package under rules: `NAME --ring MM --gap MM [--profile strict|wide] [--in FOLDER] MANIFEST`
+abbrev pub rules_app : Text → App
+rules_app name =
+    with_rule (with_rule (with_rule (with_rule (with_rule (new_app name) (option (codes "ring"))) (option (codes "gap"))) (optional_option (codes "profile")))
+    folder_option) (positional (codes "manifest"))
+
 -- `check --ring MM --gap MM [--profile strict|wide] [--in FOLDER] MANIFEST`
 abbrev pub check_app : App
-check_app =
-    with_rule (with_rule (with_rule (with_rule (with_rule (new_app (codes "check")) (option (codes "ring"))) (option (codes "gap"))) (optional_option (codes "profile")))
-    folder_option) (positional (codes "manifest"))
+check_app = rules_app (codes "check")
+
+-- `certify --ring MM --gap MM [--profile strict|wide] [--in FOLDER] MANIFEST`
+abbrev pub certify_app : App
+certify_app = rules_app (codes "certify")
+
+-- `verify [--in FOLDER] CERTIFICATE`
+abbrev pub verify_app : App
+verify_app = with_rule (with_rule (new_app (codes "verify")) folder_option) (positional (codes "certificate"))
 
 -- `measure [--profile strict|wide] [--format text|json] [--in FOLDER] MANIFEST`
 abbrev pub measure_app : App
@@ -87,11 +100,12 @@ explain_app = with_rule (new_app (codes "explain")) (optional (codes "word"))
 abbrev pub program_app : App
 program_app = let bare = new_app (codes "ringcheck") in record bare { top = record bare.top { no_binary_name = true; subcommand_required = true; has_version = true } }
 
--- the program with its eight commands
+-- the program with its ten commands
 abbrev pub ringcheck_app : App
 ringcheck_app =
-    with_subcommand (with_subcommand (with_subcommand (with_subcommand (with_subcommand (with_subcommand (with_subcommand (with_subcommand program_app
-    check_app.top) report_app.top) measure_app.top) draw_app.top) manifest_app.top) explain_app.top)
+    with_subcommand (with_subcommand (with_subcommand (with_subcommand (with_subcommand
+    (with_subcommand (with_subcommand (with_subcommand (with_subcommand (with_subcommand program_app
+    check_app.top) report_app.top) measure_app.top) draw_app.top) certify_app.top) verify_app.top) manifest_app.top) explain_app.top)
     show_app.top) rewrite_app.top
 
 -- ---- what any words ask for
@@ -102,12 +116,20 @@ pub record IsFlagValue (text : Option Text) (on : Bool) : Type 0 where
   pub no : text ≡ Some (codes "false") → on ≡ false
   pub none : text ≡ None → on ≡ false
 
+-- the options of a check are the first values of the ring, the gap and the profile
+abbrev pub AreOptionsOf : List Row → CheckWords → Type 0
+AreOptionsOf rows options =
+    (first_of (codes "ring") rows ≡ Some options.ring.now) × (first_of (codes "gap") rows ≡ Some options.gap.now)
+    × (first_of (codes "profile") rows ≡ option_map (λ p. p.now) options.profile)
+
 -- the request is that of the command that `clap` finds, with the first value of each option, and the file or files
 abbrev pub IsRequestOf : Option (Text × List Row) → Request → Type 0
 IsRequestOf None request = ⊥
-IsRequestOf (Some (name, rows)) (Check ring gap profile manifest) =
-    (name ≡ codes "check") × (first_of (codes "ring") rows ≡ Some ring.now) × (first_of (codes "gap") rows ≡ Some gap.now)
-    × (first_of (codes "profile") rows ≡ option_map (λ p. p.now) profile) × (first_of (codes "manifest") rows ≡ Some manifest.now)
+IsRequestOf (Some (name, rows)) (Check options manifest) =
+    (name ≡ codes "check") × AreOptionsOf rows options × (first_of (codes "manifest") rows ≡ Some manifest.now)
+IsRequestOf (Some (name, rows)) (Certify options manifest) =
+    (name ≡ codes "certify") × AreOptionsOf rows options × (first_of (codes "manifest") rows ≡ Some manifest.now)
+IsRequestOf (Some (name, rows)) (Verify certificate) = (name ≡ codes "verify") × (first_of (codes "certificate") rows ≡ Some certificate.now)
 IsRequestOf (Some (name, rows)) (Measure profile format manifest) =
     (name ≡ codes "measure") × (first_of (codes "profile") rows ≡ option_map (λ p. p.now) profile)
     × (first_of (codes "format") rows ≡ option_map (λ f. f.now) format) × (first_of (codes "manifest") rows ≡ Some manifest.now)
@@ -144,7 +166,7 @@ ParsesLine words (Err Version) = IsAmong DisplayVersion (fault_of ringcheck_app 
 ParsesLine words (Err (Usage text)) = (kind : ErrorKind) × IsAmong kind (fault_of ringcheck_app words) × (kind ≢ DisplayHelp) × (kind ≢ DisplayVersion)
 ParsesLine words (Err Memory) = Unit {0}
 
--- ---- what the words of a check ask for
+-- ---- what the words of a check, of a certificate and of its verification ask for
 
 -- whether a word is plain: it is not empty and does not begin with `-`, the byte 45
 abbrev pub is_plain_word : Text → Bool
@@ -166,15 +188,41 @@ abbrev pub flag_words : Text → Bool → List Text
 flag_words name true = name ∷ []
 flag_words name false = []
 
+-- the words `NAME --ring R --gap G [--profile P] [--in F] M`
+abbrev pub rules_words : Text → Text → Text → Option Text → Option Text → Text → List Text
+rules_words name ring gap profile folder manifest =
+    name ∷ codes "--ring" ∷ ring ∷ codes "--gap" ∷ gap ∷ (option_words (codes "--profile") profile ++ (option_words (codes "--in") folder ++ manifest ∷ []))
+
 -- the words `check --ring R --gap G [--profile P] [--in F] M`
 abbrev pub check_words : Text → Text → Option Text → Option Text → Text → List Text
-check_words ring gap profile folder manifest =
-    codes "check" ∷ codes "--ring" ∷ ring ∷ codes "--gap" ∷ gap ∷ (option_words (codes "--profile") profile ++ (option_words (codes "--in") folder ++ manifest ∷ []))
+check_words ring gap profile folder manifest = rules_words (codes "check") ring gap profile folder manifest
+
+-- the words `certify --ring R --gap G [--profile P] [--in F] M`
+abbrev pub certify_words : Text → Text → Option Text → Option Text → Text → List Text
+certify_words ring gap profile folder manifest = rules_words (codes "certify") ring gap profile folder manifest
+
+-- the words `verify [--in F] C`
+abbrev pub verify_words : Option Text → Text → List Text
+verify_words folder certificate = codes "verify" ∷ (option_words (codes "--in") folder ++ certificate ∷ [])
+
+-- the options have just this ring and gap, and just this word for a profile or none
+abbrev pub HaveRules : Text → Text → Option Text → CheckWords → Type 0
+HaveRules r g p options = (options.ring.now ≡ r) × (options.gap.now ≡ g) × (option_map (λ w. w.now) options.profile ≡ p)
 
 -- the request is a check with just this ring, gap and manifest, and just this word for a profile or none
 abbrev pub IsCheck : Text → Text → Option Text → Text → Request → Type 0
-IsCheck r g p m (Check ring gap profile manifest) = (ring.now ≡ r) × (gap.now ≡ g) × (option_map (λ w. w.now) profile ≡ p) × (manifest.now ≡ m)
+IsCheck r g p m (Check options manifest) = HaveRules r g p options × (manifest.now ≡ m)
 IsCheck r g p m _ = ⊥
+
+-- the request is for a certificate under just this ring and gap of the package of this manifest, and just this word for a profile or none
+abbrev pub IsCertify : Text → Text → Option Text → Text → Request → Type 0
+IsCertify r g p m (Certify options manifest) = HaveRules r g p options × (manifest.now ≡ m)
+IsCertify r g p m _ = ⊥
+
+-- the request is to verify this certificate
+abbrev pub IsVerify : Text → Request → Type 0
+IsVerify c (Verify certificate) = certificate.now ≡ c
+IsVerify c _ = ⊥
 
 -- the answer is such a request with just this folder or none, running out of memory aside
 abbrev pub ParsesAs : Option Text → (Request → Type 0) → Result CommandLine Refusal → Type 0

@@ -2,7 +2,7 @@
 
 ghost use Rattle.std.specs.Prelude.{◌≡◌, IfOk, codes, false, true};
 ghost use Rattle.clap.specs.Words.{app_of, new_app, rule_of};
-ghost use Rattle.command_line.specs.ProgramArgs.{check_app, draw_app, explain_app, folder_option, manifest_app, optional, optional_option, measure_app, option, positional, program_app, report_app, rewrite_app, ringcheck_app, show_app, one_or_more, flag};
+ghost use Rattle.command_line.specs.ProgramArgs.{certify_app, check_app, draw_app, explain_app, folder_option, manifest_app, optional, optional_option, measure_app, option, positional, program_app, report_app, rewrite_app, ringcheck_app, rules_app, show_app, verify_app, one_or_more, flag};
 
 use clap::{Arg, ArgAction, Command};
 use std::alloc::{AllocError, Global};
@@ -17,10 +17,9 @@ pub const VERSION_LINE: &str = "ringcheck 0.1.0\n";
 pub const PROGRAM: &str = "ringcheck 0.1.0";
 
 const STATUSES: &str =
-    "Exit status: 0 no findings, all of them waived, or done; 1 findings; 2 a file
-is refused; 3 usage error; 4 a file cannot be read, or out of memory.
-To start:  ringcheck manifest gerbers/* > board.csv
-           ringcheck check --ring 0.125 --gap 0.25 board.csv";
+    "Exit status: 0 no findings, all of them waived, or done; 1 findings; 2 refused
+or not certified; 3 usage error; 4 a file cannot be read, or out of memory.
+To start:  ringcheck manifest gerbers/* > board.csv; ringcheck check --help";
 
 const RING: &str = "Minimum annular ring in mm, e.g. 0.125";
 
@@ -63,6 +62,21 @@ last layer that its holes go through, and in the wide profile, with
 unit,digits,zeros after these, how its coordinates are written: inch,2:4,TZ.
 File names are relative to the working directory, or to the folder of --in.
 Example:  ringcheck check --ring 0.125 --gap 0.25 board.csv";
+
+// After `Usage: ` it stands on two lines.
+const CERTIFY_USAGE: &str = "ringcheck certify --ring <MM> --gap <MM> [--profile <strict|wide>]
+                         [--in <FOLDER>] <MANIFEST>";
+
+const CERTIFY: &str =
+    "Where check passes, certify prints a certificate instead: one line of JSON, an
+in-toto statement with the rules, the profile, and the SHA-256 digests of the
+manifest and of each file. Otherwise certify prints what check prints.
+Example:  ringcheck certify --ring 0.125 --gap 0.25 board.csv > board.json";
+
+const VERIFY: &str = "The package is checked again, under the rules of the certificate: CERTIFIED if
+it passes and no file has changed; else NOT CERTIFIED, with the files that
+differ, and exit status 2.
+Example:  ringcheck verify board.json";
 
 // After `Usage: ` it stands on two lines.
 const MEASURE_USAGE: &str = "ringcheck measure [--profile <strict|wide>] [--format <text|json>]
@@ -127,6 +141,8 @@ pub(crate) fn ringcheck<'a>(alloc: Global) -> Result<Command<'a>, AllocError>
         .subcommand(report(alloc)?)?
         .subcommand(measure(alloc)?)?
         .subcommand(draw(alloc)?)?
+        .subcommand(certify(alloc)?)?
+        .subcommand(verify(alloc)?)?
         .subcommand(manifest(alloc)?)?
         .subcommand(explain(alloc)?)?
         .subcommand(show(alloc)?)?
@@ -153,22 +169,45 @@ fn program<'a>(alloc: Global) -> Command<'a>
 fn check<'a>(alloc: Global) -> Result<Command<'a>, AllocError>
     ensures { IfOk result (λ c. app_of c ≡ check_app) }
 {
-    new_command(
+    rules_command(
         alloc,
         "check",
         "Check a package against a minimum ring and gap",
         CHECK_USAGE,
         CHECK,
     )
-    .arg(ring_arg(alloc))?
-    .arg(gap_arg(alloc))?
-    .arg(profile_arg(alloc))?
+}
+
+/// `certify --ring MM --gap MM [--profile strict|wide] [--in FOLDER] MANIFEST`
+fn certify<'a>(alloc: Global) -> Result<Command<'a>, AllocError>
+    ensures { IfOk result (λ c. app_of c ≡ certify_app) }
+{
+    rules_command(
+        alloc,
+        "certify",
+        "Check a package, and print a certificate if it passes",
+        CERTIFY_USAGE,
+        CERTIFY,
+    )
+}
+
+/// `verify [--in FOLDER] CERTIFICATE`
+fn verify<'a>(alloc: Global) -> Result<Command<'a>, AllocError>
+    ensures { IfOk result (λ c. app_of c ≡ verify_app) }
+{
+    new_command(
+        alloc,
+        "verify",
+        "Check that a certificate still holds for its package",
+        "ringcheck verify [--in <FOLDER>] <CERTIFICATE>",
+        VERIFY,
+    )
     .arg(folder_arg(alloc))?
     .arg(required_arg(
         alloc,
-        "manifest",
-        "MANIFEST",
-        "Manifest of the package: a CSV file",
+        "certificate",
+        "CERTIFICATE",
+        "Certificate of the package, as certify prints it",
     ))
 }
 
@@ -298,6 +337,29 @@ fn rewrite<'a>(alloc: Global) -> Result<Command<'a>, AllocError>
     .arg(required_option_arg(alloc, "kind", "layer|drill", KIND))?
     .arg(folder_arg(alloc))?
     .arg(required_arg(alloc, "file", "FILE", "File to read"))
+}
+
+/// `NAME --ring MM --gap MM [--profile strict|wide] [--in FOLDER] MANIFEST`, with its texts for help as of [`new_command`].
+fn rules_command<'a>(
+    alloc: Global,
+    name: &'a str,
+    about: &'a str,
+    usage: &'a str,
+    below: &'a str,
+) -> Result<Command<'a>, AllocError>
+    ensures { IfOk result (λ c. app_of c ≡ rules_app name.entry.now) }
+{
+    new_command(alloc, name, about, usage, below)
+        .arg(ring_arg(alloc))?
+        .arg(gap_arg(alloc))?
+        .arg(profile_arg(alloc))?
+        .arg(folder_arg(alloc))?
+        .arg(required_arg(
+            alloc,
+            "manifest",
+            "MANIFEST",
+            "Manifest of the package: a CSV file",
+        ))
 }
 
 /// A command with its texts for help: what it does, its usage, and what is printed below.

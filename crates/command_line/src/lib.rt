@@ -5,6 +5,8 @@
 //! ringcheck report --ring MM --gap MM [--profile strict|wide] [--max N] [--waive FILE] [--outline FILE] [--format text|html|json|waivers] [--exit-zero] [--in FOLDER] MANIFEST
 //! ringcheck measure [--profile strict|wide] [--format text|json] [--in FOLDER] MANIFEST
 //! ringcheck draw [--ring MM --gap MM] [--profile strict|wide] [--outline FILE] [--in FOLDER] MANIFEST
+//! ringcheck certify --ring MM --gap MM [--profile strict|wide] [--in FOLDER] MANIFEST
+//! ringcheck verify [--in FOLDER] CERTIFICATE
 //! ringcheck manifest [--why] [--profile strict|wide] [--in FOLDER] FILE..
 //! ringcheck explain [WORD]
 //! ringcheck show --kind layer|drill [--profile strict|wide] [--in FOLDER] FILE
@@ -15,7 +17,7 @@
 ghost use Rattle.std.specs.Prelude.{◌≡◌, ◌∷◌, [], Bool, IfOk, IfSome, Some, None, List, Option, true, codes, length, map, option_map, string_bytes};
 ghost use Rattle.std.specs.List.{list_any};
 ghost use Rattle.clap.specs.Words.{Row, Text, first_of, found_of, kind_of, one_of, rows_of, subcommand_rows_of};
-ghost use Rattle.command_line.specs.ProgramArgs.{ParsesAs, ParsesLine, ParsesAsVersion, IsLineOf, IsRequestOf, IsCheck, IsDraw, IsExplain, IsManifest, IsMeasure, IsReport, IsRewrite, IsShow, IsFlagValue, are_plain_rules, are_plain_words, check_words, draw_words, explain_words, is_plain_if_some, is_plain_word, manifest_words, measure_words, report_words, rewrite_words, show_words};
+ghost use Rattle.command_line.specs.ProgramArgs.{ParsesAs, ParsesLine, ParsesAsVersion, IsLineOf, IsRequestOf, IsCertify, IsCheck, IsDraw, IsExplain, IsManifest, IsMeasure, IsReport, IsRewrite, IsShow, IsVerify, IsFlagValue, AreOptionsOf, are_plain_rules, are_plain_words, certify_words, check_words, draw_words, explain_words, is_plain_if_some, is_plain_word, manifest_words, measure_words, report_words, rewrite_words, show_words, verify_words};
 ghost use Rattle.command_line.specs.RefusalTexts as texts;
 ghost use Rattle.command_line.specs.RefusalTexts.{EndsUsageWith, EndsWith, TellsFault};
 ghost use Rattle.command_line.specs.Inner.RequestSteps.{IsRefusalFor};
@@ -26,6 +28,18 @@ use clap::error::ErrorKind;
 use clap::{ArgMatches, Error};
 pub use commands::{PROGRAM, VERSION, VERSION_LINE};
 use std::alloc::{AllocError, Global};
+
+/// The words of the options of a check, as they stand.
+#[derive(Clone, Copy, Debug)]
+pub struct CheckWords<'a> {
+    /// The ring in mm.
+    pub ring: &'a str,
+    /// The gap in mm.
+    pub gap: &'a str,
+    /// The word for the profile that the files are read in, where one is given: it may be any word, though only `strict` and `wide`
+    /// name a profile.
+    pub profile: Option<&'a str>,
+}
 
 /// The words of the options of a report, as they stand.
 #[derive(Clone, Copy, Debug)]
@@ -64,13 +78,19 @@ pub struct PictureWords<'a> {
 /// What the words ask for. The texts are words of the command line as they stand; no number in them has been read yet.
 #[derive(Debug, Drop)]
 pub enum Request<'a> {
-    /// Check the package of a manifest. The ring and the gap are texts in mm. `profile` is the word for the profile that the files
-    /// are read in, where one is given: it may be any word, though only `strict` and `wide` name a profile.
+    /// Check the package of a manifest.
     Check {
-        ring: &'a str,
-        gap: &'a str,
-        profile: Option<&'a str>,
+        options: CheckWords<'a>,
         manifest: &'a str,
+    },
+    /// Check the package of a manifest, and print a certificate of it where it passes.
+    Certify {
+        options: CheckWords<'a>,
+        manifest: &'a str,
+    },
+    /// Check the package of a certificate again, and compare its files. `certificate` is the name of a file.
+    Verify {
+        certificate: &'a str,
     },
     /// Print the greatest ring and gap that the package of a manifest meets. `profile` is the word for the profile that the files
     /// are read in, and `format` that for a format, where they are given.
@@ -148,6 +168,10 @@ pub fn parse<'a>(alloc: Global, words: &'a [&'a str]) -> Result<CommandLine<'a>,
     ensures exact { ParsesLine (map (λ w. w.now) words.entry.now) result }
     ensures check { (r g : Text) (profile folder : Option Text) (m : Text) → map (λ w. w.now) words.entry.now ≡ check_words r g profile folder m → is_plain_word r ≡ true
         → is_plain_word g ≡ true → is_plain_if_some profile ≡ true → is_plain_if_some folder ≡ true → is_plain_word m ≡ true → ParsesAs folder (IsCheck r g profile m) result }
+    ensures certify { (r g : Text) (profile folder : Option Text) (m : Text) → map (λ w. w.now) words.entry.now ≡ certify_words r g profile folder m → is_plain_word r ≡ true
+        → is_plain_word g ≡ true → is_plain_if_some profile ≡ true → is_plain_if_some folder ≡ true → is_plain_word m ≡ true → ParsesAs folder (IsCertify r g profile m) result }
+    ensures verify { (folder : Option Text) (c : Text) → map (λ w. w.now) words.entry.now ≡ verify_words folder c → is_plain_if_some folder ≡ true → is_plain_word c ≡ true
+        → ParsesAs folder (IsVerify c) result }
     ensures measure { (profile format folder : Option Text) (m : Text) → map (λ w. w.now) words.entry.now ≡ measure_words profile format folder m → is_plain_if_some profile ≡ true
         → is_plain_if_some format ≡ true → is_plain_if_some folder ≡ true → is_plain_word m ≡ true → ParsesAs folder (IsMeasure profile format m) result }
     ensures report { (exit_zero : Bool) (r g : Text) (profile limit waive outline format folder : Option Text) (m : Text)
@@ -209,6 +233,8 @@ fn request_of<'a>(alloc: Global, name: &str, values: &ArgMatches<'a>) -> Option<
         "report" => report_request(values),
         "measure" => measure_request(values),
         "draw" => draw_request(values),
+        "certify" => certify_request(values),
+        "verify" => verify_request(values),
         "manifest" => manifest_request(alloc, values),
         "explain" => Some(explain_request(values)),
         "show" => show_request(values),
@@ -220,14 +246,33 @@ fn request_of<'a>(alloc: Global, name: &str, values: &ArgMatches<'a>) -> Option<
 fn check_request<'a>(values: &ArgMatches<'a>) -> Option<Request<'a>>
     ensures { IfSome result (λ request. IsRequestOf (Some (codes "check", rows_of (found_of values.now))) request) }
 {
+    let options = check_options(values)?;
+    let manifest = value(values, "manifest")?;
+    Some(Request::Check { options, manifest })
+}
+
+fn certify_request<'a>(values: &ArgMatches<'a>) -> Option<Request<'a>>
+    ensures { IfSome result (λ request. IsRequestOf (Some (codes "certify", rows_of (found_of values.now))) request) }
+{
+    let options = check_options(values)?;
+    let manifest = value(values, "manifest")?;
+    Some(Request::Certify { options, manifest })
+}
+
+/// The options of a check.
+fn check_options<'a>(values: &ArgMatches<'a>) -> Option<CheckWords<'a>>
+    ensures { IfSome result (AreOptionsOf (rows_of (found_of values.now))) }
+{
     let (ring, gap) = (value(values, "ring")?, value(values, "gap")?);
-    let (profile, manifest) = (value(values, "profile"), value(values, "manifest")?);
-    Some(Request::Check {
-        ring,
-        gap,
-        profile,
-        manifest,
-    })
+    let profile = value(values, "profile");
+    Some(CheckWords { ring, gap, profile })
+}
+
+fn verify_request<'a>(values: &ArgMatches<'a>) -> Option<Request<'a>>
+    ensures { IfSome result (λ request. IsRequestOf (Some (codes "verify", rows_of (found_of values.now))) request) }
+{
+    let certificate = value(values, "certificate")?;
+    Some(Request::Verify { certificate })
 }
 
 fn measure_request<'a>(values: &ArgMatches<'a>) -> Option<Request<'a>>

@@ -8,7 +8,12 @@ use std::alloc::Global;
 
 /// What is written after the head of a layer, and a letter for each flash and contour in the order of the text: `p` a pad of a standard
 /// aperture, `m` one of a macro, `c` a contour, `o` no pad, `l` a flash in clear polarity, `x` one that is cleared.
-const LAYERS: [(&[u8], &[u8]); 24] = [
+const LAYERS: [(&[u8], &[u8]); 25] = [
+    // Apertures that are defined twice alike: a disc, and a macro.
+    (
+        b"%AMT*1,1,$1,0,0*%\n%ADD10C,0.65*%\n%ADD11T,1*%\n%ADD010C,.650*%\nD10*\nX0Y0D03*\n%ADD11T,1*%\nD11*\nX0Y0D03*\n",
+        b"pm",
+    ),
     // A rounded rectangle, which is no pad of a standard aperture.
     (
         b"%AMRoundRect*0 Rectangle with rounded corners*4,1,4,$2,$3,$4,$5,$6,$7,$8,$9,$2,$3,0*1,1,$1+$1,$2,$3*1,1,$1+$1,$4,$5*1,1,$1+$1,$6,$7*1,1,$1+$1,$8,$9*20,1,$1+$1,$2,$3,$4,$5,0*20,1,$1+$1,$4,$5,$6,$7,0*20,1,$1+$1,$6,$7,$8,$9,0*20,1,$1+$1,$8,$9,$2,$3,0*%\n%ADD10RoundRect,0.25X-0.25X0.25X-0.25X-0.25X0.25X-0.25X0.25X0.25X0*%\nD10*\nX0Y0D03*\n",
@@ -129,7 +134,10 @@ const LAYERS: [(&[u8], &[u8]); 24] = [
 ];
 
 /// Layers that are refused: the place, the byte and the reason.
-const REFUSED: [(&[u8], u64, u64, Reason); 3] = [
+const REFUSED: [(&[u8], u64, u64, Reason); 5] = [
+    // An aperture of another size under its number, and one in a region.
+    (b"%ADD10C,1*%\n%ADD10C,2*%\n", 5, 39, Reason::Redefined),
+    (b"%ADD10C,1*%\nG36*\n%ADD10C,1*%\n", 6, 44, Reason::InRegion),
     // Clear polarity within a region.
     (b"G36*\n%LPC*%\nG37*\n", 5, 32, Reason::InRegion),
     // A rule's fault before a later fault of reading.

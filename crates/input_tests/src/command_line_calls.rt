@@ -94,7 +94,8 @@ const CHECKS: [&str; 6] = [
 #[test]
 fn options_of_a_check_stand_in_any_order(rt: HostRuntime) {
     for &line in &CHECKS {
-        let request = "Check { ring: \"1\", gap: \"2\", profile: None, manifest: \"m.csv\" }";
+        let request =
+            "Check { options: CheckWords { ring: \"1\", gap: \"2\", profile: None }, manifest: \"m.csv\" }";
         assert!(rt; asks(rt, line, request), "{line}");
     }
 }
@@ -103,7 +104,8 @@ fn options_of_a_check_stand_in_any_order(rt: HostRuntime) {
 #[test]
 fn a_value_may_begin_with_a_minus(rt: HostRuntime) {
     let line = "check --ring=-1 --gap 2 m.csv";
-    let request = "Check { ring: \"-1\", gap: \"2\", profile: None, manifest: \"m.csv\" }";
+    let request =
+        "Check { options: CheckWords { ring: \"-1\", gap: \"2\", profile: None }, manifest: \"m.csv\" }";
     assert!(rt; asks(rt, line, request));
 }
 
@@ -125,7 +127,7 @@ const PROFILES: [(&str, &str); 11] = [
 /// Whether the words of a line ask for a check in the profile of this word.
 fn asks_in_profile(rt: HostRuntime, line: &str, profile: &str) -> bool {
     let asked = format!(in rt.alloc();
-        "Check {{ ring: \"1\", gap: \"2\", profile: Some({profile:?}), manifest: \"m.csv\" }}"
+        "Check {{ options: CheckWords {{ ring: \"1\", gap: \"2\", profile: Some({profile:?}) }}, manifest: \"m.csv\" }}"
     );
     match asked {
         Ok(request) => asks(rt, line, request.as_str()),
@@ -137,6 +139,55 @@ fn asks_in_profile(rt: HostRuntime, line: &str, profile: &str) -> bool {
 fn a_profile_is_kept_as_it_is_written(rt: HostRuntime) {
     for &(line, profile) in &PROFILES {
         assert!(rt; asks_in_profile(rt, line, profile), "{line}");
+    }
+}
+
+/// Words of a certificate and of its verification, and what they ask for.
+const CERTIFICATES: [(&str, &str); 11] = [
+    (
+        "certify --ring 1 --gap 2 m.csv",
+        "Certify { options: CheckWords { ring: \"1\", gap: \"2\", profile: None }, manifest: \"m.csv\" }",
+    ),
+    (
+        "certify m.csv --gap 2 --ring 1",
+        "Certify { options: CheckWords { ring: \"1\", gap: \"2\", profile: None }, manifest: \"m.csv\" }",
+    ),
+    (
+        "certify --gap=2 --ring=-1 -- m.csv",
+        "Certify { options: CheckWords { ring: \"-1\", gap: \"2\", profile: None }, manifest: \"m.csv\" }",
+    ),
+    (
+        "certify --profile wide --ring 1 --gap 2 m.csv",
+        "Certify { options: CheckWords { ring: \"1\", gap: \"2\", profile: Some(\"wide\") }, manifest: \"m.csv\" }",
+    ),
+    (
+        "certify --ring=1 --gap=2 m.csv --profile=loose",
+        "Certify { options: CheckWords { ring: \"1\", gap: \"2\", profile: Some(\"loose\") }, manifest: \"m.csv\" }",
+    ),
+    (
+        "certify --ring 1 --gap 2 --in boards m.csv",
+        "Certify { options: CheckWords { ring: \"1\", gap: \"2\", profile: None }, manifest: \"m.csv\" }",
+    ),
+    (
+        "certify --ring= --gap 2 --profile= m.csv",
+        "Certify { options: CheckWords { ring: \"\", gap: \"2\", profile: Some(\"\") }, manifest: \"m.csv\" }",
+    ),
+    ("verify c.json", "Verify { certificate: \"c.json\" }"),
+    ("verify -- -c.json", "Verify { certificate: \"-c.json\" }"),
+    (
+        "verify --in boards c.json",
+        "Verify { certificate: \"c.json\" }",
+    ),
+    (
+        "verify c.json --in=boards",
+        "Verify { certificate: \"c.json\" }",
+    ),
+];
+
+#[test]
+fn a_certificate_and_its_verification_are_asked_for(rt: HostRuntime) {
+    for &(line, request) in &CERTIFICATES {
+        assert!(rt; asks(rt, line, request), "{line}");
     }
 }
 
@@ -181,7 +232,7 @@ const FILES: [(&str, &str); 9] = [
 ];
 
 /// Words, and the folder that they name.
-const FOLDERS: [(&str, Option<&str>); 12] = [
+const FOLDERS: [(&str, Option<&str>); 18] = [
     ("check --ring 1 --gap 2 m.csv", None),
     ("check --ring 1 --gap 2 --in boards m.csv", Some("boards")),
     ("check --in=/a/b/ --ring 1 --gap 2 m.csv", Some("/a/b/")),
@@ -189,6 +240,12 @@ const FOLDERS: [(&str, Option<&str>); 12] = [
     ("report --ring 1 --gap 2 m.csv --in boards", Some("boards")),
     ("measure --in boards m.csv", Some("boards")),
     ("draw m.csv --in boards --profile wide", Some("boards")),
+    ("certify --ring 1 --gap 2 m.csv", None),
+    ("certify --ring 1 --gap 2 --in boards m.csv", Some("boards")),
+    ("verify c.json", None),
+    ("verify --in boards c.json", Some("boards")),
+    ("verify c.json --in=/a/b/", Some("/a/b/")),
+    ("verify c.json --in=", Some("")),
     ("show --kind layer --in boards top.gbr", Some("boards")),
     ("rewrite --kind drill --in boards pth.drl", Some("boards")),
     ("manifest --in boards top.gbr pth.drl", Some("boards")),
@@ -221,7 +278,7 @@ fn a_table_and_a_canonical_text_are_asked_for(rt: HostRuntime) {
     }
 }
 
-const REFUSED: [&str; 70] = [
+const REFUSED: [&str; 92] = [
     "check --ring -1 --gap 2 m.csv",
     // a folder is named once, with its value, and not of explain
     "check --ring=1 --gap=2 m.csv --in",
@@ -284,6 +341,29 @@ const REFUSED: [&str; 70] = [
     "draw --outline=edge.gbr --outline=edge.gbr m.csv",
     "report --ring=1 --gap=2 --outline m.csv",
     "measure --outline=edge.gbr m.csv",
+    // a certificate and its verification with other words
+    "certify",
+    "certify m.csv",
+    "certify --ring 1 m.csv",
+    "certify --gap 2 m.csv",
+    "certify --ring 1 --gap 2",
+    "certify --ring -1 --gap 2 m.csv",
+    "certify --ring=1 --ring=1 --gap=2 m.csv",
+    "certify --ring=1 --gap=2 m.csv n.csv",
+    "certify --ring=1 --gap=2 m.csv --profile",
+    "certify --profile wide --profile wide --ring=1 --gap=2 m.csv",
+    "certify --ring=1 --gap=2 --in a --in b m.csv",
+    "certify --waive=w.csv --ring=1 --gap=2 m.csv",
+    "certify --exit-zero --ring=1 --gap=2 m.csv",
+    "Certify --ring 1 --gap 2 m.csv",
+    "verify",
+    "verify --in boards",
+    "verify c.json --in",
+    "verify --in a --in b c.json",
+    "verify c.json d.json",
+    "verify -c.json",
+    "verify --ring 1 --gap 2 c.json",
+    "verify --profile wide c.json",
     // a format is named once, and of two commands
     "measure m.csv --format",
     "measure --format json",
@@ -309,11 +389,13 @@ fn other_words_are_refused(rt: HostRuntime) {
 }
 
 /// The commands and their options that help names.
-const COMMANDS: [&str; 10] = [
+const COMMANDS: [&str; 12] = [
     "check",
     "report",
     "measure",
     "draw",
+    "certify",
+    "verify",
     "manifest",
     "explain",
     "show",
@@ -335,7 +417,7 @@ const VALUES: [&str; 8] = [
 ];
 
 /// Words that ask for help, and parts of it.
-const HELP: [(&str, Parts); 10] = [
+const HELP: [(&str, Parts); 12] = [
     ("--help", &COMMANDS),
     ("-h", &COMMANDS),
     ("help", &COMMANDS),
@@ -386,6 +468,28 @@ const HELP: [(&str, Parts); 10] = [
             "Draw a package as an SVG picture",
         ],
     ),
+    (
+        "certify --help",
+        &[
+            "Check a package, and print a certificate if it passes",
+            "ringcheck certify --ring <MM> --gap <MM> [--profile <strict|wide>]\n",
+            " [--in <FOLDER>] <MANIFEST>\n",
+            "--ring <MM>       Minimum annular ring in mm, e.g. 0.125\n",
+            "--profile <NAME>  strict (default): ",
+            "Example:  ringcheck certify ",
+        ],
+    ),
+    (
+        "verify --help",
+        &[
+            "Check that a certificate still holds for its package",
+            "ringcheck verify [--in <FOLDER>] <CERTIFICATE>\n",
+            "<CERTIFICATE>  Certificate of the package, as certify prints it\n",
+            "--in <FOLDER>  Folder that file names are relative to\n",
+            "NOT CERTIFIED",
+            "Example:  ringcheck verify ",
+        ],
+    ),
 ];
 
 #[test]
@@ -395,12 +499,14 @@ fn help_names_commands_and_options(rt: HostRuntime) {
     }
 }
 
-const PAGES: [&str; 9] = [
+const PAGES: [&str; 11] = [
     "--help",
     "check --help",
     "report --help",
     "measure --help",
     "draw --help",
+    "certify --help",
+    "verify --help",
     "manifest --help",
     "explain --help",
     "show --help",

@@ -9,6 +9,7 @@ pub use Rattle.grid_units.specs.Numbers.{picometres}
 unfoldable pub use Rattle.grid_units.specs.Numbers.{parse_decimal, within_limit}
 pub use Rattle.grid_units.specs.Points.{GridPoint, square}
 pub use Rattle.grid_units.specs.declared.lengths.Unit.TheVariants.{Millimetre}
+pub use Rattle.grid_units.specs.declared.profile.Profile.{Profile}
 pub use Rattle.layer_features.specs.AfterLast.{up_to_last}
 pub use Rattle.layer_features.specs.Blocks.{copy_count, in_open_block, is_repeated}
 pub use Rattle.layer_features.specs.Clearing.{positions_up_to_clearing, clears_all, draws, is_clear_after, is_clearing, is_drawing, polarity_set, positions_after_clearing}
@@ -30,7 +31,7 @@ pub use Rattle.layer_state.specs.Flashes.{added_flashes, aperture_flashes, copie
 pub use Rattle.layer_state.specs.Lookback.{GraphicsState, aperture_selected, block_set, current_aperture, current_of, definition_set, format_set, has_hole, no_repeat, region_set, scale_set, size_at, state_after, turn_set, unit_set, x_set, y_set}
 pub use Rattle.layer_state.specs.Pads.{MayFlash, copies_in, pad_at}
 pub use Rattle.layer_state.specs.Placing.{copy_in, in_order, is_turned_over, mirrored_point, no_mirroring, oriented_point, shapes_at, turned_point}
-pub use Rattle.layer_state.specs.Rules.{all_rules, breaks_rule, broken_rule}
+pub use Rattle.layer_state.specs.Rules.{all_rules, breaks_rule, broken_rule_in, may_define_again}
 unfoldable pub use Rattle.layer_state.specs.Rules.{first_broken}
 pub use Rattle.layer_state.specs.Shapes.{defined_numbered, macro_named, primitives_shape, selected_after, within_limits}
 unfoldable pub use Rattle.layer_state.specs.Shapes.{inner_primitive}

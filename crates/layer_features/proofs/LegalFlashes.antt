@@ -1,5 +1,5 @@
 -- What the rules of a legal list say of a flash, and which pad it leaves.
-use Rattle.layer_features.proofs.Common.{◌≡◌, ℕ, zero, suc, ◌<◌, get_or, arith, ◌%◌, ◌&&◌, ◌==◌, not, ℤ, unsigned_abs, Bool, true, false, cond, List, [], ◌∷◌, length, Option, None, Some, unwrap_or, refl, sym, ap, subst, ◌∙◌, is_none, option_map_or, option_or, int_eq, find, cons_option, picometres, GridPoint, Millimetre, Command, Format, unit_scale, GraphicsState, definition_set, copies, copies_at, current_of, current_unit, disc_at, obround_at, quarter, rect_at, swaps_sides, what_at, MayFlash, copies_in, pad_at, all_rules, breaks_rule, first_broken}
+use Rattle.layer_features.proofs.Common.{◌≡◌, ℕ, zero, suc, ◌<◌, get_or, arith, ◌%◌, ◌&&◌, ◌==◌, not, ℤ, unsigned_abs, Bool, true, false, cond, List, [], ◌∷◌, length, Option, None, Some, unwrap_or, refl, sym, ap, subst, ◌∙◌, is_none, option_map_or, option_or, int_eq, find, cons_option, picometres, GridPoint, Millimetre, Command, Format, unit_scale, GraphicsState, definition_set, copies, copies_at, current_of, current_unit, disc_at, obround_at, quarter, rect_at, swaps_sides, what_at, MayFlash, copies_in, pad_at, all_rules, breaks_rule, first_broken, may_define_again, Profile}
 use Rattle.std.specs.Option.{option_map, option_and_then}
 use Rattle.grid_units.specs.declared.fault.Reason.TheVariants as reason
 use Rattle.grid_units.specs.declared.lengths.Unit.{Unit as Units}
@@ -15,6 +15,7 @@ use Rattle.pad_shapes.specs.declared.row.Why.TheVariants as why
 use Rattle.layer_state.specs.Inner.IsStateAfter.{after}
 use Rattle.layer_state.specs.Numbers.{dec_length}
 use Rattle.layer_state.specs.Flashes.{pad_in}
+use Rattle.layer_state.specs.Lookback.{template_numbered}
 
 -- ---- what a flash leaves
 
@@ -68,9 +69,13 @@ none_at p (x ∷ xs) zero d h lt = (not_found (p x) x (find p xs) h).0
 none_at p (x ∷ xs) (suc k) d h lt = none_at p xs k d (not_found (p x) x (find p xs) h).1 (omega arith)
 
 -- a command that breaks no rule does not break the one at this place
-pub keeps_rule : (s : GraphicsState) (count : ℕ) (c : Command) (k : ℕ) → first_broken s count c ≡ None → k < 15 → breaks_rule s count c (get_or all_rules k reason.InRegion) ≡ false
+pub keeps_rule : (again : Bool) (s : GraphicsState) (count : ℕ) (c : Command) (k : ℕ) → first_broken again s count c ≡ None → k < 15 → breaks_rule again s count c (get_or all_rules k reason.InRegion) ≡ false
 unfolding first_broken
-keeps_rule s count c k h lt = none_at (breaks_rule s count c) all_rules k reason.InRegion h lt
+keeps_rule again s count c k h lt = none_at (breaks_rule again s count c) all_rules k reason.InRegion h lt
+
+-- whether a command may define again what these define
+abbrev pub again_after : Profile → List Command → Command → Bool
+again_after profile before c = may_define_again profile (template_numbered before) c
 
 -- the aperture that is selected is defined
 abbrev pub IsDefined : GraphicsState → Type 0
@@ -83,28 +88,28 @@ stays_defined : (new old : Option Aperture) → is_none old ≡ false → is_non
 stays_defined None old h = h
 stays_defined (Some shape) old h = refl
 
-pub defined_after : (s : GraphicsState) (count : ℕ) (c : Command) → IsDefined s → first_broken s count c ≡ None → IsDefined (after c s)
-defined_after s count (command.Select other) defined h number e =
-    subst (λ (n : ℕ). is_none (s.definition n) ≡ false) (some_same other number e) (keeps_rule s count (command.Select other) 8 h (omega arith))
-defined_after s count c defined h number e = stays_defined (definition_set number c) (s.definition number) (defined number e)
+pub defined_after : (again : Bool) (s : GraphicsState) (count : ℕ) (c : Command) → IsDefined s → first_broken again s count c ≡ None → IsDefined (after c s)
+defined_after again s count (command.Select other) defined h number e =
+    subst (λ (n : ℕ). is_none (s.definition n) ≡ false) (some_same other number e) (keeps_rule again s count (command.Select other) 8 h (omega arith))
+defined_after again s count c defined h number e = stays_defined (definition_set number c) (s.definition number) (defined number e)
 
 pub some_of : {A : Type 0} (o : Option A) → is_none o ≡ false → (a : A) × (o ≡ Some a)
 some_of None h = absurd cc
 some_of (Some a) h = (a, refl)
 
-pub may_flash : (s : GraphicsState) (count : ℕ) (x y i j : Option ℤ) → IsDefined s → first_broken s count (command.Operate action.Flash x y i j) ≡ None
+pub may_flash : (again : Bool) (s : GraphicsState) (count : ℕ) (x y i j : Option ℤ) → IsDefined s → first_broken again s count (command.Operate action.Flash x y i j) ≡ None
     → (unit : Units) × (format : Format) × (shape : Aperture) × MayFlash s unit format shape
-may_flash s count x y i j defined h =
+may_flash again s count x y i j defined h =
     let c : Command = command.Operate action.Flash x y i j in
-    let unit = some_of s.unit (keeps_rule s count c 3 h (omega arith)) in
-    let format = some_of s.format (keeps_rule s count c 2 h (omega arith)) in
-    let number = some_of s.selected (keeps_rule s count c 9 h (omega arith)) in
+    let unit = some_of s.unit (keeps_rule again s count c 3 h (omega arith)) in
+    let format = some_of s.format (keeps_rule again s count c 2 h (omega arith)) in
+    let number = some_of s.selected (keeps_rule again s count c 9 h (omega arith)) in
     let shape = some_of (s.definition number.0) (defined number.0 number.1) in (
       unit.0,
       format.0,
       shape.0,
       record {
-        outside = keeps_rule s count c 0 h (omega arith);
+        outside = keeps_rule again s count c 0 h (omega arith);
         in_unit = unit.1;
         in_format = format.1;
         selected = ap (λ (o : Option ℕ). option_and_then s.definition o) number.1 ∙ shape.1;

@@ -1,11 +1,11 @@
 -- The pads among the flashes and contours of a legal list are the pads that its commands make.
-use Rattle.layer_features.proofs.Common.{◌≡◌, ◌∙◌, List, [], ◌∷◌, ◌++◌, length, sym, refl, ap, subst, AllByRecursion, filter_map, flat_map, filter_map-append, violation_at, with_prefixes, with_prefixes_from, WidePad, Command, flashes_of, state_after, broken_rule, Feature, positions_up_to_clearing, positions_after_clearing, LegalWidePads, features_at, pad_in, pads_of, AreWidePads, AreWidePadsAt, AreWidePadsOf}
+use Rattle.layer_features.proofs.Common.{◌≡◌, ◌∙◌, List, [], ◌∷◌, ◌++◌, length, sym, refl, ap, subst, AllByRecursion, filter_map, flat_map, filter_map-append, violation_at, with_prefixes, with_prefixes_from, WidePad, Command, flashes_of, state_after, broken_rule_in, Feature, Profile, positions_up_to_clearing, positions_after_clearing, LegalWidePads, features_at, pad_in, pads_of, AreWidePads, AreWidePadsAt, AreWidePadsOf}
 use Rattle.std.proofs.lemmas.List.Concat.{flat_map-cons}
 use Rattle.grid_units.specs.declared.fault.Reason.{Reason}
 use Rattle.layer_state.proofs.StateLemmas.{state_after-more}
 use Rattle.layer_features.proofs.ClearingLemmas.{all_positions}
 use Rattle.layer_features.proofs.KeptFeaturesLemmas.{no_pads_left}
-use Rattle.layer_features.proofs.LegalFlashes.{IsDefined, defined_after, none_broken}
+use Rattle.layer_features.proofs.LegalFlashes.{IsDefined, again_after, defined_after, none_broken}
 use Rattle.layer_features.proofs.PlotLemmas.{PartsAgree, parts_agree, parts_at_start}
 use Rattle.layer_features.proofs.StandingLemmas.{left_of}
 use Rattle.layer_features.proofs.WidePadLemmas.{pads_at}
@@ -14,13 +14,13 @@ use Rattle.layer_features.proofs.WidePadLemmas.{pads_at}
 abbrev HasPads : List Command × Command → Type 0
 HasPads p = AreWidePadsOf p.0 p.1 (pads_of (features_at p))
 
-legal_from : (before cs : List Command) → IsDefined (state_after before) → PartsAgree before → filter_map (violation_at broken_rule) (with_prefixes_from before cs) ≡ [] → AllByRecursion HasPads (with_prefixes_from before cs)
-legal_from before [] defined agree h = tt
-legal_from before (c ∷ cs) defined agree h =
-    let both = none_broken (λ (r : Reason). (length before, r)) (broken_rule before c) _ h in
+legal_from : (profile : Profile) (before cs : List Command) → IsDefined (state_after before) → PartsAgree before → filter_map (violation_at (broken_rule_in profile)) (with_prefixes_from before cs) ≡ [] → AllByRecursion HasPads (with_prefixes_from before cs)
+legal_from profile before [] defined agree h = tt
+legal_from profile before (c ∷ cs) defined agree h =
+    let both = none_broken (λ (r : Reason). (length before, r)) (broken_rule_in profile before c) _ h in
     let defined_next : IsDefined (state_after (before ++ c ∷ [])) =
-    subst IsDefined (sym (state_after-more before c)) (defined_after (state_after before) (length (flashes_of before)) c defined both.0) in
-    (pads_at before c defined agree both.0, legal_from (before ++ c ∷ []) cs defined_next (parts_agree before c both.0 agree) both.1)
+    subst IsDefined (sym (state_after-more before c)) (defined_after (again_after profile before c) (state_after before) (length (flashes_of before)) c defined both.0) in
+    (pads_at profile before c defined agree both.0, legal_from profile (before ++ c ∷ []) cs defined_next (parts_agree profile before c both.0 agree) both.1)
 
 -- what holds of all holds of the later ones
 of_later : (ps qs : List (List Command × Command)) → AllByRecursion HasPads (ps ++ qs) → AllByRecursion HasPads qs
@@ -38,8 +38,8 @@ in_order (p ∷ ps) all = (
 )
 
 pub legal_wide_pads : LegalWidePads
-legal_wide_pads commands legal =
-    let all : AllByRecursion HasPads (with_prefixes commands) = legal_from [] commands (λ number e. absurd cc) parts_at_start legal in
+legal_wide_pads profile commands legal =
+    let all : AllByRecursion HasPads (with_prefixes commands) = legal_from profile [] commands (λ number e. absurd cc) parts_at_start legal in
     let counted : AllByRecursion HasPads (positions_after_clearing commands) = of_later (positions_up_to_clearing commands) (positions_after_clearing commands) (subst (AllByRecursion HasPads) (all_positions commands) all) in
     let gone : List Feature = flat_map features_at (positions_up_to_clearing commands) in
     let own : List Feature = flat_map features_at (positions_after_clearing commands) in

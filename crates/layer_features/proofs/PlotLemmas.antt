@@ -1,12 +1,12 @@
 -- What a plot in a region meets where no rule is broken, and the parts of the region.
-use Rattle.layer_features.proofs.Common.{◌≡◌, ◌∙◌, ℕ, ℤ, unsigned_abs, Bool, true, false, not, ◌&&◌, nat_le, nat_lt, List, [], ◌∷◌, ◌++◌, length, Option, None, Some, unwrap_or, refl, sym, ap, arith, if◌then◌else◌, is_none, option_map_or, option_or, cons_option, last_set, picometres, GridPoint, Millimetre, last_set-more, Command, Format, current_of, state_after, unit_set, flashes_of, broken_rule, Part, PlotState, part_by, region_parts, starts_region, draw_state_after, near, operation_point, point_at, plot_state, plot_state_after, point_in}
+use Rattle.layer_features.proofs.Common.{◌≡◌, ◌∙◌, ℕ, ℤ, unsigned_abs, Bool, true, false, not, ◌&&◌, nat_le, nat_lt, List, [], ◌∷◌, ◌++◌, length, Option, None, Some, unwrap_or, refl, sym, ap, arith, if◌then◌else◌, is_none, option_map_or, option_or, cons_option, last_set, picometres, GridPoint, Millimetre, last_set-more, Command, Format, current_of, state_after, unit_set, flashes_of, broken_rule_in, Part, Profile, PlotState, part_by, region_parts, starts_region, draw_state_after, near, operation_point, point_at, plot_state, plot_state_after, point_in}
 use Rattle.std.proofs.lemmas.Bool.Decides.{nat_tests}
 use Rattle.grid_units.specs.Points.{max_coordinate}
 use Rattle.grid_units.specs.declared.lengths.Unit.{Unit as Units}
 use Rattle.macro_shapes.specs.Primitives.{grid_point}
 use Rattle.gerber_commands.specs.declared.command.Command.TheVariants as command
 use Rattle.layer_features.proofs.CopperLemmas.{region_parts-more}
-use Rattle.layer_features.proofs.LegalFlashes.{keeps_rule, some_of}
+use Rattle.layer_features.proofs.LegalFlashes.{again_after, keeps_rule, some_of}
 
 -- what a plotter has for a plot after some commands
 abbrev pub drawn_plot : List Command → PlotState
@@ -51,22 +51,22 @@ plot_is before unit format in_unit in_format = λ i. record {
 -- ---- parts
 
 -- a command that breaks no rule adds the same part
-same_part : (before : List Command) (c : Command) → broken_rule before c ≡ None → part_by (drawn_plot before) c ≡ part_by (plot_state_after before) c
-same_part before (command.Operate a x y i j) h =
+same_part : (profile : Profile) (before : List Command) (c : Command) → broken_rule_in profile before c ≡ None → part_by (drawn_plot before) c ≡ part_by (plot_state_after before) c
+same_part profile before (command.Operate a x y i j) h =
     let c : Command = command.Operate a x y i j in
     let count = length (flashes_of before) in
-    let unit = some_of (state_after before).unit (keeps_rule (state_after before) count c 3 h (omega arith)) in
-    let format = some_of (state_after before).format (keeps_rule (state_after before) count c 2 h (omega arith)) in
+    let unit = some_of (state_after before).unit (keeps_rule (again_after profile before c) (state_after before) count c 3 h (omega arith)) in
+    let format = some_of (state_after before).format (keeps_rule (again_after profile before c) (state_after before) count c 2 h (omega arith)) in
     ap (λ (s : PlotState). part_by s c) (plot_is before unit.0 format.0 unit.1 format.1)
-same_part before c h = refl
+same_part profile before c h = refl
 
 -- and none before a unit
-no_part : (before : List Command) (c : Command) → broken_rule before c ≡ None → (state_after before).unit ≡ None → part_by (plot_state_after before) c ≡ None
-no_part before (command.Operate a x y i j) h none = absurd (by (keeps_rule (state_after before) (length (flashes_of before)) (command.Operate a x y i j) 3 h (omega arith)))
+no_part : (profile : Profile) (before : List Command) (c : Command) → broken_rule_in profile before c ≡ None → (state_after before).unit ≡ None → part_by (plot_state_after before) c ≡ None
+no_part profile before (command.Operate a x y i j) h none = absurd (by (keeps_rule (again_after profile before (command.Operate a x y i j)) (state_after before) (length (flashes_of before)) (command.Operate a x y i j) 3 h (omega arith)))
   where
     by : is_none (state_after before).unit ≡ false → ⊥
     by named = let both : true ≡ false = sym (ap is_none none) ∙ named in cc
-no_part before c h none = refl
+no_part profile before c h none = refl
 
 -- the parts of the last region are the same, and before a unit there are none
 pub record PartsAgree (before : List Command) : Type 0 where
@@ -85,10 +85,10 @@ none_more : (b : Bool) (parts : List Part) (part : Option Part) → parts ≡ []
 none_more true parts part h k = refl
 none_more false parts part h k = λ i. h i ++ cons_option (k i) []
 
-pub parts_agree : (before : List Command) (c : Command) → broken_rule before c ≡ None → PartsAgree before → PartsAgree (before ++ c ∷ [])
-parts_agree before c legal agree = record {
-  same = region_parts-more drawn_plot before c ∙ (λ i. if starts_region c then [] else agree.same i ++ cons_option (same_part before c legal i) []) ∙ sym (region_parts-more plot_state_after before c);
+pub parts_agree : (profile : Profile) (before : List Command) (c : Command) → broken_rule_in profile before c ≡ None → PartsAgree before → PartsAgree (before ++ c ∷ [])
+parts_agree profile before c legal agree = record {
+  same = region_parts-more drawn_plot before c ∙ (λ i. if starts_region c then [] else agree.same i ++ cons_option (same_part profile before c legal i) []) ∙ sym (region_parts-more plot_state_after before c);
   none = λ e.
       let old : (state_after before).unit ≡ None = none_of_both (unit_set c) (last_set unit_set before) (sym (last_set-more unit_set before c) ∙ e) in
-      region_parts-more plot_state_after before c ∙ none_more (starts_region c) (region_parts plot_state_after before) (part_by (plot_state_after before) c) (agree.none old) (no_part before c legal old);
+      region_parts-more plot_state_after before c ∙ none_more (starts_region c) (region_parts plot_state_after before) (part_by (plot_state_after before) c) (agree.none old) (no_part profile before c legal old);
 }

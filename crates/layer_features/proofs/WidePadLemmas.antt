@@ -1,5 +1,5 @@
 -- The pads among the flashes and contours of one command are those that it makes.
-use Rattle.layer_features.proofs.Common.{◌≡◌, ◌∙◌, ◌&&◌, not, ℤ, Bool, true, false, List, [], ◌∷◌, ◌++◌, map, length, Option, None, Some, unwrap_or, refl, ap, arith, append-nil, if◌then◌else◌, option_map, option_map_or, option_or, cons_option, filter_map, GridPoint, Millimetre, GridRounded, WidePad, Command, Format, Flash, added_flashes, aperture_flashes, copies_at, current_of, current_unit, flash_at, flashes_of, what_at, state_after, MayFlash, copies_in, shapes_at, broken_rule, Part, is_clear_after, contour_of, region_parts, contour_feature, dark_kind, features_at, flash_feature, other_kind, pad_in, pads_of, CopperState, contours_in, copper_state_after, ended_regions, flashed_pad, has_room, is_room, selected_shape, draw_state_after, AreDarkPads, AreWidePadsOf, contour_after, contours_at, plot_state_after, wide_pad_at}
+use Rattle.layer_features.proofs.Common.{◌≡◌, ◌∙◌, ◌&&◌, not, ℤ, Bool, true, false, List, [], ◌∷◌, ◌++◌, map, length, Option, None, Some, unwrap_or, refl, ap, arith, append-nil, if◌then◌else◌, option_map, option_map_or, option_or, cons_option, filter_map, GridPoint, Millimetre, GridRounded, WidePad, Command, Format, Flash, added_flashes, aperture_flashes, copies_at, current_of, current_unit, flash_at, flashes_of, what_at, state_after, MayFlash, copies_in, shapes_at, broken_rule_in, Profile, Part, is_clear_after, contour_of, region_parts, contour_feature, dark_kind, features_at, flash_feature, other_kind, pad_in, pads_of, CopperState, contours_in, copper_state_after, ended_regions, flashed_pad, has_room, is_room, selected_shape, draw_state_after, AreDarkPads, AreWidePadsOf, contour_after, contours_at, plot_state_after, wide_pad_at}
 use Rattle.std.specs.Bool.{MatchBool}
 use Rattle.grid_units.specs.declared.lengths.Unit.{Unit as Units}
 use Rattle.pad_shapes.specs.declared.pad.Pad.{Pad}
@@ -14,7 +14,7 @@ use Rattle.layer_state.specs.Flashes as flash_lists
 use Rattle.layer_state.specs.declared.flash.What.{What}
 use Rattle.layer_state.specs.declared.flash.What.TheVariants as what
 use Rattle.layer_features.specs.declared.feature.FeatureKind.TheVariants as kind
-use Rattle.layer_features.proofs.LegalFlashes.{IsDefined, copies_are, keeps_rule, may_flash, pad_is as plain_pad_is, some_of, unit_is}
+use Rattle.layer_features.proofs.LegalFlashes.{IsDefined, again_after, copies_are, keeps_rule, may_flash, pad_is as plain_pad_is, some_of, unit_is}
 use Rattle.layer_features.proofs.PlotLemmas.{PartsAgree}
 use Rattle.layer_features.proofs.SelectedShapes.{shape_is_selected}
 
@@ -105,16 +105,16 @@ region_pads before dark agree =
 
 -- ---- all pads of a command
 
-dark_pads : (before : List Command) (c : Command) → IsDefined (state_after before) → PartsAgree before → broken_rule before c ≡ None → is_clear_after before ≡ false → AreDarkPads before c (pads_of (features_at (before, c)))
-dark_pads before (command.Operate action.Flash x y i j) defined agree legal dark =
+dark_pads : (profile : Profile) (before : List Command) (c : Command) → IsDefined (state_after before) → PartsAgree before → broken_rule_in profile before c ≡ None → is_clear_after before ≡ false → AreDarkPads before c (pads_of (features_at (before, c)))
+dark_pads profile before (command.Operate action.Flash x y i j) defined agree legal dark =
     let s = state_after before in
     let c : Command = command.Operate action.Flash x y i j in
     let count = length (flashes_of before) in
-    let may = may_flash s count x y i j defined legal in
-    let number = some_of s.selected (keeps_rule s count c 9 legal (omega arith)) in
+    let may = may_flash (again_after profile before c) s count x y i j defined legal in
+    let number = some_of s.selected (keeps_rule (again_after profile before c) s count c 9 legal (omega arith)) in
     (may.0, may.1, may.2, selected_shape (draw_state_after before), may.3, shape_is_selected before number.0 number.1, flash_pads before x y i j may.0 may.1 may.2 dark may.3)
-dark_pads before command.RegionEnd defined agree legal dark = contour_pads (contours_in (copper_state_after before) command.RegionEnd) ∙ ap (map Rounded) (region_pads before dark agree)
-dark_pads before c defined agree legal dark = refl
+dark_pads profile before command.RegionEnd defined agree legal dark = contour_pads (contours_in (copper_state_after before) command.RegionEnd) ∙ ap (map Rounded) (region_pads before dark agree)
+dark_pads profile before c defined agree legal dark = refl
 
 clear_pads : (before : List Command) (c : Command) → is_clear_after before ≡ true → pads_of (features_at (before, c)) ≡ []
 clear_pads before c clear =
@@ -124,9 +124,9 @@ clear_pads before c clear =
     ∙ none_in_clear s clear (added_flashes (state_after before) c)
 
 -- a command that breaks no rule makes the pads among its flashes and contours
-pub pads_at : (before : List Command) (c : Command) → IsDefined (state_after before) → PartsAgree before → broken_rule before c ≡ None → AreWidePadsOf before c (pads_of (features_at (before, c)))
-pads_at before c defined agree legal = by (is_clear_after before) refl
+pub pads_at : (profile : Profile) (before : List Command) (c : Command) → IsDefined (state_after before) → PartsAgree before → broken_rule_in profile before c ≡ None → AreWidePadsOf before c (pads_of (features_at (before, c)))
+pads_at profile before c defined agree legal = by (is_clear_after before) refl
   where
     by : (b : Bool) → is_clear_after before ≡ b → MatchBool b (pads_of (features_at (before, c)) ≡ []) (AreDarkPads before c (pads_of (features_at (before, c))))
     by true clear = clear_pads before c clear
-    by false dark = dark_pads before c defined agree legal dark
+    by false dark = dark_pads profile before c defined agree legal dark

@@ -2,6 +2,7 @@
 use Rattle.std.specs.Prelude.{◌≡◌, ◌↔◌, ℕ, true, false, List, ◌∷◌, ◌++◌, Some}
 use Rattle.std.specs.List.{Contains, list_any}
 use Rattle.grid_units.specs.Lists.{IsLegal, with_prefixes_from}
+use Rattle.grid_units.specs.declared.profile.Profile.{Profile}
 use Rattle.gerber_commands.specs.declared.command.Command.{Command}
 use Rattle.grid_units.specs.Points.{GridPoint}
 use Rattle.pad_shapes.specs.declared.wide_pad.WidePad.{WidePad}
@@ -10,7 +11,7 @@ use Rattle.macro_shapes.specs.Primitives.{IsInPrimitive}
 use Rattle.macro_shapes.specs.Shapes.{shape_of}
 use Rattle.macro_shapes.specs.declared.primitive.Primitive.{Primitive}
 use Rattle.layer_state.specs.declared.mirroring.Mirroring.{Mirroring}
-use Rattle.layer_state.specs.Rules.{broken_rule}
+use Rattle.layer_state.specs.Rules.{broken_rule_in}
 use Rattle.layer_features.specs.declared.part.Part.{Part}
 use Rattle.layer_features.specs.Clearing.{clears_all, positions_after_clearing}
 use Rattle.layer_features.specs.Contours.{contour_of}
@@ -40,9 +41,9 @@ abbrev pub UnclearedPositions : Type 0
 UnclearedPositions = (before : List Command) (c : Command) (after : List Command)
     → Contains (positions_after_clearing (before ++ c ∷ after)) (before, c) ↔ (list_any clears_all (with_prefixes_from before (c ∷ after)) ≡ false)
 
--- the pads among the flashes and contours of a legal list are the pads that its commands make in the wide profile
+-- the pads among the flashes and contours of a list that is legal in a profile are the pads that its commands make in the wide one
 abbrev pub LegalWidePads : Type 0
-LegalWidePads = (commands : List Command) → IsLegal broken_rule commands → AreWidePads commands (pads_of (wide_features_of commands))
+LegalWidePads = (profile : Profile) (commands : List Command) → IsLegal (broken_rule_in profile) commands → AreWidePads commands (pads_of (wide_features_of commands))
 
 -- commands make at most one list of pads in the wide profile
 abbrev pub WidePadsAreUnique : Type 0

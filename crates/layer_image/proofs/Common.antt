@@ -33,9 +33,9 @@ pub use Rattle.layer_state.specs.Faults.{IsFirstFault, fault_of}
 pub use Rattle.layer_state.specs.Flashes.{added_flashes, aperture_flashes, copies_at, current_unit, flash_at, flash_copies, flashes_of, grid_at, numbers_below, pads_of}
 pub use Rattle.layer_state.specs.Holding.{HasScannedLegal, IsScanned, scanned_flashes, scanned_pads}
 pub use Rattle.layer_state.specs.KeptFlashes.{KeptParts, keeps_flashes, keeps_pads, taking_pads, without_flashes, without_pads}
-pub use Rattle.layer_state.specs.Lookback.{GraphicsState, current_aperture, current_of, state_after}
+pub use Rattle.layer_state.specs.Lookback.{GraphicsState, current_aperture, current_of, state_after, template_numbered}
 pub use Rattle.layer_state.specs.Pads.{AreFlashPads, ArePads, ArePadsFrom, ArePadsOf, IsFlashPad, IsPadOf, MayFlash, copies_in, copy_in, flashed_at}
-pub use Rattle.layer_state.specs.Rules.{all_rules, breaks_rule, broken_rule}
+pub use Rattle.layer_state.specs.Rules.{all_rules, breaks_rule, broken_rule_in, may_define_again}
 unfoldable pub use Rattle.layer_state.specs.Rules.{first_broken}
 pub use Rattle.layer_state.specs.declared.flash.Flash.{Flash}
 pub use Rattle.pad_shapes.specs.declared.pad.Pad.{Pad}

@@ -111,7 +111,7 @@ none_plain [] h = refl
 none_plain (p ∷ ps) h = absurd cc
 
 pub kept_by_flashes : (profile : Profile) (of : Keep) (taken : List WidePad) (k : FlashKeep) (plain_taken : List Pad) (entries commands : Entries) (scanned : Scanned) (counts : FeatureCounts)
-    → flashes_kept profile of ≡ Some k → taken ≡ map plain plain_taken → IsScanned (without_pads k plain_taken) (without_places entries) scanned → counts ≡ counts_of (features_of Strict (without_places entries)) → commands ≡ (if keeps_commands of then entries else [])
+    → flashes_kept profile of ≡ Some k → taken ≡ map plain plain_taken → IsScanned (without_pads profile k plain_taken) (without_places entries) scanned → counts ≡ counts_of (features_of Strict (without_places entries)) → commands ≡ (if keeps_commands of then entries else [])
     → IsKeptOf profile of taken entries (record { commands = commands; flashes = scanned.flashes.items; pads = scanned.pads.items; wide_pads = []; features = []; drawn = []; counts = counts; file_function = scanned.file_function })
 kept_by_flashes profile of taken k plain_taken entries commands scanned counts is same s counts_are given =
     let cs : List Command = without_places entries in

@@ -9,6 +9,7 @@ pub mod UniquePads
 pub mod FlashedPads
 pub mod PadExamples
 pub mod MetLemmas
+pub mod WiderRules
 pub mod StrictReading
 pub mod KeptLemmas
 pub mod ContentLemmas

@@ -1,5 +1,5 @@
 -- What a reader of a layer in pieces shows of the text so far.
-use Rattle.layer_image.proofs.Common.{◌≡◌, inl, inr, ℕ, List, [], ◌++◌, length, take, drop, append-nil, append_assoc, Bool, true, false, cond, Result, Ok, Err, OnOk, IfOk, IfErr, refl, sym, ap, subst, ◌∙◌, nat_lt, arith, take-length, if◌then◌else◌, take-append-drop, AnswersAlways, Answers, IfFault, Fault, bind_ok, Profile, WordReader, OffsetByte, Entries, commands_by, shown_by, ShowsIn, ReadsIn, SpellsPrefixIn, SpellsBeforeFaultIn, entries_after, StandsIn, FailedIn, FailsWithIn, held_entries, shown_spelled, WidePad, Keep, IsFirstFault, LayerImage, ReadsLayer, ReadsLayerIn, IsKeptOf, KeptLayer, ReadsKeptIn, image_in, LayerContent, counts_of, features_of, flashes_of, pads_of, Strict, IsLegal, HasContent, ShowsLayerFaultIn, text_limit, without_places, broken_rule, HasMetText, LayerStands, keeps_commands, FeatureCounts}
+use Rattle.layer_image.proofs.Common.{◌≡◌, inl, inr, ℕ, List, [], ◌++◌, length, take, drop, append-nil, append_assoc, Bool, true, false, cond, Result, Ok, Err, OnOk, IfOk, IfErr, refl, sym, ap, subst, ◌∙◌, nat_lt, arith, take-length, if◌then◌else◌, take-append-drop, AnswersAlways, Answers, IfFault, Fault, bind_ok, Profile, WordReader, OffsetByte, Entries, commands_by, shown_by, ShowsIn, ReadsIn, SpellsPrefixIn, SpellsBeforeFaultIn, entries_after, StandsIn, FailedIn, FailsWithIn, held_entries, shown_spelled, WidePad, Keep, IsFirstFault, LayerImage, ReadsLayer, ReadsLayerIn, IsKeptOf, KeptLayer, ReadsKeptIn, image_in, LayerContent, counts_of, features_of, flashes_of, pads_of, Strict, IsLegal, HasContent, ShowsLayerFaultIn, text_limit, without_places, broken_rule_in, HasMetText, LayerStands, keeps_commands, FeatureCounts}
 use Rattle.grid_units.specs.declared.fault.Fail.{Fail}
 use Rattle.grid_units.specs.declared.fault.Fail.TheVariants as fails
 use Rattle.gerber_text.proofs.FinishLemmas.{holds_shows, shows_reads}
@@ -31,14 +31,14 @@ shows_kept profile text cs s =
 
 -- a rule's fault among the commands of the items so far is shown, whatever the word reader answered
 pub rule_shown : (profile : Profile) (text : List ℕ) (words : WordReader) (gone cs : Entries) (r : Result (Unit {0}) Fail) (e : Fail) → OnOk r (StandsIn words profile gone text) → IfErr r (FailedIn words profile gone text)
-    → (StandsIn words profile gone text → ShowsIn profile text (Ok (gone ++ cs))) → ((d : Fail) → FailedIn words profile gone text d → SpellsBeforeFaultIn profile text d (gone ++ cs)) → IfFault (IsFirstFault (gone ++ cs)) e → IfFault (ShowsLayerFaultIn profile text) e
+    → (StandsIn words profile gone text → ShowsIn profile text (Ok (gone ++ cs))) → ((d : Fail) → FailedIn words profile gone text d → SpellsBeforeFaultIn profile text d (gone ++ cs)) → IfFault (IsFirstFault profile (gone ++ cs)) e → IfFault (ShowsLayerFaultIn profile text) e
 rule_shown profile text words gone cs r fails.Memory stands failed shows keeps h = tt
 rule_shown profile text words gone cs (Ok x) (fails.Refused f) stands failed shows keeps h = let k = shows_kept profile text (gone ++ cs) (shows stands) in inl (k.0, gone ++ cs, k.1, h)
 rule_shown profile text words gone cs (Err fails.Memory) (fails.Refused f) stands failed shows keeps h = let k = keeps fails.Memory failed in inl (k.0, gone ++ cs, k.1, h)
 rule_shown profile text words gone cs (Err (fails.Refused g)) (fails.Refused f) stands failed shows keeps h = let k = keeps (fails.Refused g) failed in inl (k.0, gone ++ cs, k.2, h)
 
 -- a fault of reading is shown where the commands before it are legal
-pub words_shown : (profile : Profile) (text : List ℕ) (words : WordReader) (gone cs : Entries) (e : Fail) → FailedIn words profile gone text e → SpellsBeforeFaultIn profile text e (gone ++ cs) → IsLegal broken_rule (without_places (gone ++ cs)) → IfFault (ShowsLayerFaultIn profile text) e
+pub words_shown : (profile : Profile) (text : List ℕ) (words : WordReader) (gone cs : Entries) (e : Fail) → FailedIn words profile gone text e → SpellsBeforeFaultIn profile text e (gone ++ cs) → IsLegal (broken_rule_in profile) (without_places (gone ++ cs)) → IfFault (ShowsLayerFaultIn profile text) e
 words_shown profile text words gone cs fails.Memory failed kept legal = tt
 words_shown profile text words gone cs (fails.Refused f) failed kept legal = inr (gone ++ cs, failed.fails.reported, kept, legal)
 
@@ -65,12 +65,12 @@ longer profile text bytes n (fails.Refused f) h =
 
 -- a rule's fault among the commands of some of these bytes is shown, whatever the word reader answered
 pub part_shown : (profile : Profile) (text bytes : List ℕ) (words : WordReader) (gone cs : Entries) (r : Result ℕ Fail) (e : Fail) → IfOk r (λ n. StandsIn words profile gone (text ++ take n bytes)) → IfErr r (FailedIn words profile gone (text ++ bytes))
-    → ((t : List ℕ) → StandsIn words profile gone t → ShowsIn profile t (Ok (gone ++ cs))) → ((t : List ℕ) (d : Fail) → FailedIn words profile gone t d → SpellsBeforeFaultIn profile t d (gone ++ cs)) → IfFault (IsFirstFault (gone ++ cs)) e → IfFault (ShowsLayerFaultIn profile (text ++ bytes)) e
+    → ((t : List ℕ) → StandsIn words profile gone t → ShowsIn profile t (Ok (gone ++ cs))) → ((t : List ℕ) (d : Fail) → FailedIn words profile gone t d → SpellsBeforeFaultIn profile t d (gone ++ cs)) → IfFault (IsFirstFault profile (gone ++ cs)) e → IfFault (ShowsLayerFaultIn profile (text ++ bytes)) e
 part_shown profile text bytes words gone cs (Ok n) e stands failed shows keeps h = longer profile text bytes n e (rule_shown profile (text ++ take n bytes) words gone cs (Ok tt) e stands tt (shows (text ++ take n bytes)) (keeps (text ++ take n bytes)) h)
 part_shown profile text bytes words gone cs (Err d) e stands failed shows keeps h = rule_shown profile (text ++ bytes) words gone cs (Err d) e tt failed (shows (text ++ bytes)) (keeps (text ++ bytes)) h
 
 -- a rule's fault among the commands that were read is shown, and all of them are gone
-pub gone_shown : (profile : Profile) (text bytes : List ℕ) (n : ℕ) (words : WordReader) (gone : Entries) (e : Fail) → StandsIn words profile gone (text ++ take n bytes) → held_entries words ≡ [] → IfFault (IsFirstFault gone) e → IfFault (ShowsLayerFaultIn profile (text ++ bytes)) e
+pub gone_shown : (profile : Profile) (text bytes : List ℕ) (n : ℕ) (words : WordReader) (gone : Entries) (e : Fail) → StandsIn words profile gone (text ++ take n bytes) → held_entries words ≡ [] → IfFault (IsFirstFault profile gone) e → IfFault (ShowsLayerFaultIn profile (text ++ bytes)) e
 gone_shown profile text bytes n words gone fails.Memory stands none h = tt
 gone_shown profile text bytes n words gone (fails.Refused f) stands none h =
     let so_far = text ++ take n bytes in
@@ -118,13 +118,13 @@ all_kept text (Err fails.Memory) h = tt
 all_kept text (Err (fails.Refused f)) h = h
 
 -- the end that was refused is a layer's fault
-pub end_err : (profile : Profile) (text : List ℕ) (gone : Entries) (keep : Keep) (left : List WidePad) (e : Fail) → AnswersAlways (entries_after gone) (λ answer. ReadsIn profile text answer) (Err e) → SpellsBeforeFaultIn profile text e gone → IsLegal broken_rule (without_places gone)
+pub end_err : (profile : Profile) (text : List ℕ) (gone : Entries) (keep : Keep) (left : List WidePad) (e : Fail) → AnswersAlways (entries_after gone) (λ answer. ReadsIn profile text answer) (Err e) → SpellsBeforeFaultIn profile text e gone → IsLegal (broken_rule_in profile) (without_places gone)
     → Answers {T = KeptLayer} (λ layer. layer) (ReadsKeptIn profile keep left text) (Err e)
 end_err profile text gone keep left fails.Memory h kept legal = tt
 end_err profile text gone keep left (fails.Refused f) h kept legal = inr (gone, h, kept, legal)
 
 -- the commands that were met are legal
-pub legal_content : (profile : Profile) (keep : Keep) (taken : List WidePad) (held_entries : LayerContent) (entries : Entries) → HasContent profile keep taken held_entries entries → IsLegal broken_rule (without_places entries)
+pub legal_content : (profile : Profile) (keep : Keep) (taken : List WidePad) (held_entries : LayerContent) (entries : Entries) → HasContent profile keep taken held_entries entries → IsLegal (broken_rule_in profile) (without_places entries)
 legal_content profile keep taken (content.Flashes scan) entries h = h.scanned.legal
 legal_content profile keep taken (content.Features met) entries h = h.1.scanned.legal
 

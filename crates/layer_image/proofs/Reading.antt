@@ -1,5 +1,5 @@
 -- A text of legal commands reads as their layer.
-use Rattle.layer_image.proofs.Common.{◌≡◌, ℕ, List, length, Bool, true, false, cond, Ok, Err, [], refl, sym, ap, subst, ◌∙◌, nat_lt, arith, take-length, Fault, bind_ok, Profile, OffsetByte, has_end, Entries, commands_by, shown_by, ReadsIn, SpellsPrefixIn, shown_spelled, reads_spells, LayerImage, ReadsLayerIn, image_of, IsLegal, text_limit, without_places, broken_rule}
+use Rattle.layer_image.proofs.Common.{◌≡◌, ℕ, List, length, Bool, true, false, cond, Ok, Err, [], refl, sym, ap, subst, ◌∙◌, nat_lt, arith, take-length, Fault, bind_ok, Profile, OffsetByte, has_end, Entries, commands_by, shown_by, ReadsIn, SpellsPrefixIn, shown_spelled, reads_spells, LayerImage, ReadsLayerIn, image_of, IsLegal, text_limit, without_places, broken_rule_in}
 
 ended_ok : (t u : Bool) (x cs : Entries) (e d : Fault) → cond t (Err e) (cond u (Ok x) (Err d)) ≡ Ok cs → x ≡ cs
 ended_ok true u x cs e d h = absurd cc
@@ -23,5 +23,5 @@ kept_all profile text cs r =
     )
 
 -- legal commands make a layer
-pub legal_layer : (profile : Profile) (text : List ℕ) (entries : Entries) (layer : LayerImage) → ReadsIn profile text (Ok entries) → IsLegal broken_rule (without_places entries) → layer ≡ image_of entries → ReadsLayerIn profile text (Ok layer)
+pub legal_layer : (profile : Profile) (text : List ℕ) (entries : Entries) (layer : LayerImage) → ReadsIn profile text (Ok entries) → IsLegal (broken_rule_in profile) (without_places entries) → layer ≡ image_of entries → ReadsLayerIn profile text (Ok layer)
 legal_layer profile text entries layer r legal is = subst (λ (l : LayerImage). ReadsLayerIn profile text (Ok l)) (sym is) (record { spells = reads_spells profile text entries r; legal = legal }, refl)

@@ -1,37 +1,37 @@
 -- Each text has an answer.
-use Rattle.layer_image.proofs.Common.{◌≡◌, ◌⊎◌, inl, inr, ℕ, suc, ◌+◌, ◌≤◌, List, [], ◌∷◌, ◌++◌, length, take, Option, Some, None, slice_get, cond, Result, Ok, Err, refl, sym, ap, ◌∙◌, nat_lt, arith, filter_map, cons_option, list_all, option_map, take-length, map-append, violations, violation_at, with_prefixes_from, IsLegal, ◌>>=◌, fault, Fault, Reason, bind_ok, bind_err, Profile, Command, Placed, OffsetByte, bytes_of, first_offset, has_end, Entries, SpellsPrefixIn, ReadsIn, commands_by, is_blank, read_by, shown_by, spelled_in, fault_of, IsFirstFault, EachTextAnswersIn, LayerImage, ReadsLayerIn, image_of, broken_rule, text_limit, item_limit, without_places, spelled_place}
+use Rattle.layer_image.proofs.Common.{◌≡◌, ◌⊎◌, inl, inr, ℕ, suc, ◌+◌, ◌≤◌, List, [], ◌∷◌, ◌++◌, length, take, Option, Some, None, slice_get, cond, Result, Ok, Err, refl, sym, ap, ◌∙◌, nat_lt, arith, filter_map, cons_option, list_all, option_map, take-length, map-append, violations, violation_at, with_prefixes_from, IsLegal, ◌>>=◌, fault, Fault, Reason, bind_ok, bind_err, Profile, Command, Placed, OffsetByte, bytes_of, first_offset, has_end, Entries, SpellsPrefixIn, ReadsIn, commands_by, is_blank, read_by, shown_by, spelled_in, fault_of, IsFirstFault, EachTextAnswersIn, LayerImage, ReadsLayerIn, image_of, broken_rule_in, text_limit, item_limit, without_places, spelled_place}
 use Rattle.gerber_text.proofs.Some.{some_reading}
 use Rattle.layer_image.proofs.Reading.{legal_layer, kept_all}
 use Rattle.layer_image.proofs.UniqueReading.{rest_place, ended_place}
 
 -- ---- a list is legal, or has a first fault
 
-legal_after : (first cs : Entries) → filter_map (violation_at fault_of) (with_prefixes_from first cs) ≡ [] → filter_map (violation_at broken_rule) (with_prefixes_from (without_places first) (without_places cs)) ≡ []
-legal_after first [] h = refl
-legal_after first (e ∷ cs) h = by (broken_rule (without_places first) e.what) refl (legal_after (first ++ e ∷ []) cs)
+legal_after : (profile : Profile) (first cs : Entries) → filter_map (violation_at (fault_of profile)) (with_prefixes_from first cs) ≡ [] → filter_map (violation_at (broken_rule_in profile)) (with_prefixes_from (without_places first) (without_places cs)) ≡ []
+legal_after profile first [] h = refl
+legal_after profile first (e ∷ cs) h = by (broken_rule_in profile (without_places first) e.what) refl (legal_after profile (first ++ e ∷ []) cs)
   where
     more : List (ℕ × Fault)
-    more = filter_map (violation_at fault_of) (with_prefixes_from (first ++ e ∷ []) cs)
+    more = filter_map (violation_at (fault_of profile)) (with_prefixes_from (first ++ e ∷ []) cs)
 
     later : List Command → List (ℕ × Reason)
-    later before = filter_map (violation_at broken_rule) (with_prefixes_from before (without_places cs))
+    later before = filter_map (violation_at (broken_rule_in profile)) (with_prefixes_from before (without_places cs))
 
     again : without_places (first ++ e ∷ []) ≡ without_places first ++ e.what ∷ []
     again = map-append (λ (d : Placed Command). d.what) first (e ∷ [])
 
-    head : (o : Option Reason) → broken_rule (without_places first) e.what ≡ o → cons_option (option_map (λ f. (length first, f)) (option_map (fault e.place e.byte) o)) more ≡ []
+    head : (o : Option Reason) → broken_rule_in profile (without_places first) e.what ≡ o → cons_option (option_map (λ f. (length first, f)) (option_map (fault e.place e.byte) o)) more ≡ []
     head o q = ap (λ p. cons_option (option_map (λ f. (length first, f)) (option_map (fault e.place e.byte) p)) more) (sym q) ∙ h
 
-    by : (o : Option Reason) → broken_rule (without_places first) e.what ≡ o → (more ≡ [] → later (without_places (first ++ e ∷ [])) ≡ []) → filter_map (violation_at broken_rule) (with_prefixes_from (without_places first) (without_places (e ∷ cs))) ≡ []
+    by : (o : Option Reason) → broken_rule_in profile (without_places first) e.what ≡ o → (more ≡ [] → later (without_places (first ++ e ∷ [])) ≡ []) → filter_map (violation_at (broken_rule_in profile)) (with_prefixes_from (without_places first) (without_places (e ∷ cs))) ≡ []
     by None q rest =
         ap (λ p. cons_option (option_map (λ r. (length (without_places first), r)) p) (later (without_places first ++ e.what ∷ []))) q ∙ (ap later (sym again) ∙ rest (head None q))
     by (Some r) q rest = let none = head (Some r) q in absurd cc
 
-first_or_legal : (entries : Entries) → ((f : Fault) × IsFirstFault entries f) ⊎ IsLegal broken_rule (without_places entries)
-first_or_legal entries = by (violations fault_of entries) refl
+first_or_legal : (profile : Profile) (entries : Entries) → ((f : Fault) × IsFirstFault profile entries f) ⊎ IsLegal (broken_rule_in profile) (without_places entries)
+first_or_legal profile entries = by (violations (fault_of profile) entries) refl
   where
-    by : (l : List (ℕ × Fault)) → violations fault_of entries ≡ l → ((f : Fault) × IsFirstFault entries f) ⊎ IsLegal broken_rule (without_places entries)
-    by [] e = inr (legal_after [] entries e)
+    by : (l : List (ℕ × Fault)) → violations (fault_of profile) entries ≡ l → ((f : Fault) × IsFirstFault profile entries f) ⊎ IsLegal (broken_rule_in profile) (without_places entries)
+    by [] e = inr (legal_after profile [] entries e)
     by (p ∷ l) e = inl (p.1, (p.0, ap (λ (m : List (ℕ × Fault)). slice_get m 0) e))
 
 -- ---- the items before the place of a fault spell commands
@@ -74,13 +74,13 @@ kept_before_fault profile text f r = elim (read_stop profile (length text) r.ite
 ]
 
 answer_of : (profile : Profile) (text : List ℕ) (r : Result Entries Fault) → ReadsIn profile text r → (answer : Result LayerImage Fault) × ReadsLayerIn profile text answer
-answer_of profile text (Ok entries) r = elim (first_or_legal entries) [
+answer_of profile text (Ok entries) r = elim (first_or_legal profile entries) [
   | inl first ↦ let all = kept_all profile text entries r in (Err first.0, inl (all.0, entries, all.1, first.1))
   | inr legal ↦ (Ok (image_of entries), legal_layer profile text entries (image_of entries) r legal refl)
 ]
 answer_of profile text (Err f) r =
     let before = kept_before_fault profile text f r in
-    elim (first_or_legal before.0) [
+    elim (first_or_legal profile before.0) [
       | inl first ↦ (Err first.0, inl (before.1, before.0, before.3, first.1))
       | inr legal ↦ (Err f, inr (before.0, r, (before.1, before.2, before.3), legal))
     ]

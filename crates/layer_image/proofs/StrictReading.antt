@@ -19,6 +19,7 @@ use Rattle.layer_features.specs.FurtherPads.{CopperState, contours_in, copper_st
 use Rattle.layer_features.proofs.ClearingLemmas.{all_uncleared, is_clear, stays_dark_after}
 use Rattle.layer_features.proofs.DarkLayers.{all_features}
 use Rattle.layer_image.proofs.KeptLemmas.{plain_of_flashes}
+use Rattle.layer_image.proofs.WiderRules.{wider_legal}
 
 -- a sayable command is not `%LPC*%`
 not_clear : (c : Command) → is_sayable c ≡ true → is_clear c ≡ false
@@ -104,7 +105,7 @@ strict_read text layer h =
     let commands = without_places layer.commands in
     let none = none_clear commands (text_sayable text layer.commands h.0.spells) in
     record {
-      wide = (record { spells = spells_more text layer.commands h.0.spells; legal = h.0.legal }, h.1);
+      wide = (record { spells = spells_more text layer.commands h.0.spells; legal = wider_legal commands h.0.legal }, h.1);
       features = strict_of_dark commands none;
       pads = plain_of_flashes (flashes_of commands) ∙ ap (λ (l : List Pad). map plain l) (sym (ap (λ (l : LayerImage). l.pads) h.1));
       drawn = drawn_of_dark commands none;

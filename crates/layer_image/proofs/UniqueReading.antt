@@ -1,5 +1,5 @@
 -- A text reads in one way.
-use Rattle.layer_image.proofs.Common.{◌≡◌, ◌⊎◌, inl, inr, ℕ, zero, suc, ◌≤◌, ◌+◌, List, [], ◌∷◌, ◌++◌, length, take, drop, Option, Some, None, Bool, true, false, cond, Result, Ok, Err, refl, sym, ap, subst, ◌∙◌, nat_lt, arith, append_assoc, append-nil, list_all, take-append-drop, length-take-le, IsLegal, ◌>>=◌, fault, with_place, Fault, Reason, bind_ok, bind_err, Profile, Command, OffsetByte, offset_bytes, bytes_of, first_offset, has_end, Entries, SpellsPrefixIn, spelled_in, ReadsIn, after_end, commands_by, is_blank, latest_action, may_follow, item_entries, read_by, shown_by, spells_reads, IsFirstFault, LayerImage, ReadsLayerIn, image_of, broken_rule, text_limit, item_limit, without_places, cases_lt, spelled_place}
+use Rattle.layer_image.proofs.Common.{◌≡◌, ◌⊎◌, inl, inr, ℕ, zero, suc, ◌≤◌, ◌+◌, List, [], ◌∷◌, ◌++◌, length, take, drop, Option, Some, None, Bool, true, false, cond, Result, Ok, Err, refl, sym, ap, subst, ◌∙◌, nat_lt, arith, append_assoc, append-nil, list_all, take-append-drop, length-take-le, IsLegal, ◌>>=◌, fault, with_place, Fault, Reason, bind_ok, bind_err, Profile, Command, OffsetByte, offset_bytes, bytes_of, first_offset, has_end, Entries, SpellsPrefixIn, spelled_in, ReadsIn, after_end, commands_by, is_blank, latest_action, may_follow, item_entries, read_by, shown_by, spells_reads, IsFirstFault, LayerImage, ReadsLayerIn, image_of, broken_rule_in, text_limit, item_limit, without_places, cases_lt, spelled_place}
 use Rattle.grid_units.specs.declared.fault.Reason.TheVariants.{TooLong, AfterEnd, Truncated}
 use Rattle.gerber_text.specs.Meaning.{meaning_in}
 use Rattle.gerber_text.proofs.UniqueReading.{one_read, same_items}
@@ -11,8 +11,8 @@ fault_in d None = d
 fault_in d (Some p) = p.1
 
 -- a list has one first fault
-one_first : (cs : Entries) (f g : Fault) → IsFirstFault cs f → IsFirstFault cs g → f ≡ g
-one_first cs f g h k = ap (fault_in f) (sym h.1 ∙ k.1)
+one_first : (profile : Profile) (cs : Entries) (f g : Fault) → IsFirstFault profile cs f → IsFirstFault profile cs g → f ≡ g
+one_first profile cs f g h k = ap (fault_in f) (sym h.1 ∙ k.1)
 
 -- ---- the first items of a text spell the first commands
 
@@ -156,15 +156,15 @@ module _ (profile : Profile) (text : List ℕ) where
       ]
 
   -- first commands that are legal have no fault among fewer of them
-  no_early_fault : (n m : ℕ) (cs ds : Entries) (f : Fault) → SpellsPrefixIn profile text n cs → SpellsPrefixIn profile text m ds → n ≤ m → IsLegal broken_rule (without_places ds) → IsFirstFault cs f → ⊥
+  no_early_fault : (n m : ℕ) (cs ds : Entries) (f : Fault) → SpellsPrefixIn profile text n cs → SpellsPrefixIn profile text m ds → n ≤ m → IsLegal (broken_rule_in profile) (without_places ds) → IsFirstFault profile cs f → ⊥
   no_early_fault n m cs ds f h k le legal first =
       let more = among n m cs ds h k le in
-      no_fault ds f legal (subst (λ (es : Entries). IsFirstFault es f) (sym more.1) (first_fault_of_longer cs more.0 f first))
+      no_fault profile ds f legal (subst (λ (es : Entries). IsFirstFault profile es f) (sym more.1) (first_fault_of_longer profile cs more.0 f first))
 
-  same_rule : (n m : ℕ) (cs ds : Entries) (f g : Fault) → SpellsPrefixIn profile text n cs → SpellsPrefixIn profile text m ds → n ≤ m → IsFirstFault cs f → IsFirstFault ds g → f ≡ g
+  same_rule : (n m : ℕ) (cs ds : Entries) (f g : Fault) → SpellsPrefixIn profile text n cs → SpellsPrefixIn profile text m ds → n ≤ m → IsFirstFault profile cs f → IsFirstFault profile ds g → f ≡ g
   same_rule n m cs ds f g h k le first second =
       let more = among n m cs ds h k le in
-      one_first ds f g (subst (λ (es : Entries). IsFirstFault es f) (sym more.1) (first_fault_of_longer cs more.0 f first)) second
+      one_first profile ds f g (subst (λ (es : Entries). IsFirstFault profile es f) (sym more.1) (first_fault_of_longer profile cs more.0 f first)) second
 
   -- reading gives the commands of a layer's text
   computed : {image : LayerImage} → ReadsLayerIn profile text (Ok image) → ReadsIn profile text (Ok image.commands)
@@ -178,14 +178,14 @@ module _ (profile : Profile) (text : List ℕ) where
       no_early_fault k.0 all.0 k.1 image.commands f k.2 all.1 (omega (arith, within, all.2)) h.0.legal k.3
   not_both image f h (inr k) = differ (one_read profile text (Err f) (Ok image.commands) k.1 (computed h))
 
-  by_two_rules : (f g : Fault) → (n m : ℕ) (cs ds : Entries) → SpellsPrefixIn profile text n cs → SpellsPrefixIn profile text m ds → IsFirstFault cs f → IsFirstFault ds g → f ≡ g
+  by_two_rules : (f g : Fault) → (n m : ℕ) (cs ds : Entries) → SpellsPrefixIn profile text n cs → SpellsPrefixIn profile text m ds → IsFirstFault profile cs f → IsFirstFault profile ds g → f ≡ g
   by_two_rules f g n m cs ds h k first second = elim (cases_lt m n) [
     | inl less ↦ sym (same_rule m n ds cs g f k h (omega (arith, less)) second first)
     | inr more ↦ same_rule n m cs ds f g h k (omega (arith, more)) first second
   ]
 
   -- the fault of a rule comes before that of reading
-  rule_or_reading : (f g : Fault) (n m : ℕ) (cs ds : Entries) → SpellsPrefixIn profile text n cs → IsFirstFault cs f → ReadsIn profile text (Err g) → g.place ≡ suc m → SpellsPrefixIn profile text m ds → IsLegal broken_rule (without_places ds) → ⊥
+  rule_or_reading : (f g : Fault) (n m : ℕ) (cs ds : Entries) → SpellsPrefixIn profile text n cs → IsFirstFault profile cs f → ReadsIn profile text (Err g) → g.place ≡ suc m → SpellsPrefixIn profile text m ds → IsLegal (broken_rule_in profile) (without_places ds) → ⊥
   rule_or_reading f g n m cs ds h first r place k legal = no_early_fault n m cs ds f h k (omega (arith, kept_before n cs g h r, place)) legal first
 
   same_fault : (f g : Fault) → ReadsLayerIn profile text (Err f) → ReadsLayerIn profile text (Err g) → f ≡ g

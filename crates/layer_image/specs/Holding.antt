@@ -17,7 +17,7 @@ use Rattle.layer_state.specs.Flashes.{flashes_of}
 use Rattle.layer_state.specs.Holding.{HasScannedLegal, scanned_pads}
 use Rattle.layer_features.specs.Kept.{keeps_commands}
 use Rattle.layer_state.specs.KeptFlashes.{without_flashes, without_pads}
-use Rattle.layer_state.specs.Rules.{broken_rule}
+use Rattle.layer_state.specs.Rules.{broken_rule_in}
 use Rattle.layer_state.specs.declared.flash.FlashKeep.{FlashKeep}
 use Rattle.layer_features.specs.declared.keep.Keep.{Keep}
 use Rattle.layer_state.specs.declared.scan.Scan.{Scan}
@@ -30,14 +30,14 @@ use Rattle.layer_image.specs.declared.reader.LayerReader.{LayerReader}
 -- In a profile a text shows this fault of a layer, whatever follows: the first by the rules in what some first items spell, or its own after legal commands.
 abbrev pub ShowsLayerFaultIn : Profile → List ℕ → Fault → Type 0
 ShowsLayerFaultIn profile text f =
-    ((kept : ℕ) × (entries : Entries) × SpellsPrefixIn profile text kept entries × IsFirstFault entries f)
-    ⊎ ((entries : Entries) × ShowsIn profile text (Err f) × SpellsBeforeFaultIn profile text (fails.Refused f) entries × IsLegal broken_rule (without_places entries))
+    ((kept : ℕ) × (entries : Entries) × SpellsPrefixIn profile text kept entries × IsFirstFault profile entries f)
+    ⊎ ((entries : Entries) × ShowsIn profile text (Err f) × SpellsBeforeFaultIn profile text (fails.Refused f) entries × IsLegal (broken_rule_in profile) (without_places entries))
 
 -- ---- judged commands
 
--- just these commands were met, none of them breaks a rule, and these pads were taken out on the way
-pub record HasMetLegal (keep : Keep) (taken : List WidePad) (met : Met) (entries : Entries) : Type 0 where
-  pub scanned : HasScannedLegal met.scan (without_flashes (flashes_of (without_places entries))) entries
+-- just these commands were met, none of them breaks a rule of the profile, and these pads were taken out on the way
+pub record HasMetLegal (profile : Profile) (keep : Keep) (taken : List WidePad) (met : Met) (entries : Entries) : Type 0 where
+  pub scanned : HasScannedLegal met.scan (without_flashes profile (flashes_of (without_places entries))) entries
   pub copper : HasMet keep taken met.copper (without_places entries)
 
 -- the same, where the flashes of the strict profile are all that is needed
@@ -46,12 +46,12 @@ pub record HasScannedFor (profile : Profile) (keep : Keep) (taken : List WidePad
   pub is : flashes_kept profile keep ≡ Some kept
   pub plain_taken : List Pad
   pub same : taken ≡ map plain plain_taken
-  pub scanned : HasScannedLegal scan (without_pads kept plain_taken) entries
+  pub scanned : HasScannedLegal scan (without_pads profile kept plain_taken) entries
 
--- the commands so far are just these, none of them breaks a rule, and of what they make is held what is kept in the profile
+-- the commands so far are just these, none of them breaks a rule of the profile, and of what they make is held what is kept in the profile
 abbrev pub HasContent : Profile → Keep → List WidePad → LayerContent → Entries → Type 0
 HasContent profile keep taken (content.Flashes scan) entries = HasScannedFor profile keep taken scan entries
-HasContent profile keep taken (content.Features met) entries = (flashes_kept profile keep ≡ None) × HasMetLegal keep taken met entries
+HasContent profile keep taken (content.Features met) entries = (flashes_kept profile keep ≡ None) × HasMetLegal profile keep taken met entries
 
 -- the pads of standard apertures that are held in the strict profile
 abbrev pub plain_in : LayerContent → List Pad

@@ -16,7 +16,7 @@ use Rattle.layer_features.specs.Features.{features_of, strict_view}
 use Rattle.layer_features.specs.Features as feature_lists
 use Rattle.layer_state.specs.Faults.{IsFirstFault}
 use Rattle.layer_state.specs.FileFunction.{file_function_of}
-use Rattle.layer_state.specs.Rules.{all_rules, broken_rule}
+use Rattle.layer_state.specs.Rules.{all_rules, broken_rule_in}
 use Rattle.gerber_text.specs.Writing.{without_places}
 use Rattle.grid_units.specs.Lists.{IsLegal}
 
@@ -44,7 +44,7 @@ image_of entries = record {
 -- a layer's text of these commands in a profile: it is cut into items that spell them, and they are legal
 pub record IsLayerTextIn (profile : Profile) (text : List ℕ) (commands : Entries) : Type 0 where
   pub spells : SpellsTextIn profile text commands
-  pub legal : IsLegal broken_rule (without_places commands)
+  pub legal : IsLegal (broken_rule_in profile) (without_places commands)
 
 -- the text is a layer's text of the image's commands in the profile, and the rest of the image follows from them
 abbrev pub IsLayerIn : Profile → List ℕ → LayerImage → Type 0
@@ -59,8 +59,8 @@ IsLayer text image = IsLayerIn Strict text image
 abbrev pub ReadsLayerIn : Profile → List ℕ → Result LayerImage Fault → Type 0
 ReadsLayerIn profile text (Ok image) = IsLayerIn profile text image
 ReadsLayerIn profile text (Err f) =
-    ((kept : ℕ) × (entries : Entries) × SpellsPrefixIn profile text kept entries × IsFirstFault entries f)
-    ⊎ ((entries : Entries) × ReadsIn profile text (Err f) × SpellsBeforeFaultIn profile text (fails.Refused f) entries × IsLegal broken_rule (without_places entries))
+    ((kept : ℕ) × (entries : Entries) × SpellsPrefixIn profile text kept entries × IsFirstFault profile entries f)
+    ⊎ ((entries : Entries) × ReadsIn profile text (Err f) × SpellsBeforeFaultIn profile text (fails.Refused f) entries × IsLegal (broken_rule_in profile) (without_places entries))
 
 -- the same in the strict profile
 abbrev pub ReadsLayer : List ℕ → Result LayerImage Fault → Type 0
@@ -75,7 +75,7 @@ EqualCommands = (s t : List ℕ) (a b : LayerImage) → ReadsLayer s (Ok a) → 
 
 -- in each profile a text is a layer's text of some commands just where reading it gives these and they are legal
 abbrev pub LayerTexts : Type 0
-LayerTexts = (profile : Profile) (text : List ℕ) (commands : Entries) → IsLayerTextIn profile text commands ↔ (ReadsIn profile text (Ok commands) × IsLegal broken_rule (without_places commands))
+LayerTexts = (profile : Profile) (text : List ℕ) (commands : Entries) → IsLayerTextIn profile text commands ↔ (ReadsIn profile text (Ok commands) × IsLegal (broken_rule_in profile) (without_places commands))
 
 -- in each profile a text reads as one layer, or has one fault
 abbrev pub ReadingIsUniqueIn : Type 0
@@ -84,7 +84,7 @@ ReadingIsUniqueIn = (profile : Profile) (text : List ℕ) (a b : Result LayerIma
 -- in each profile a text reads as a layer just where reading it gives legal commands, those of the layer, and the rest follows from them
 abbrev pub LayersOfTextsIn : Type 0
 LayersOfTextsIn = (profile : Profile) (text : List ℕ) (image : LayerImage)
-    → ReadsLayerIn profile text (Ok image) ↔ (ReadsIn profile text (Ok image.commands) × IsLegal broken_rule (without_places image.commands) × (image ≡ image_of image.commands))
+    → ReadsLayerIn profile text (Ok image) ↔ (ReadsIn profile text (Ok image.commands) × IsLegal (broken_rule_in profile) (without_places image.commands) × (image ≡ image_of image.commands))
 
 -- in each profile a fault of a layer has the reason of one of the fifteen rules, or it is the fault of its text
 abbrev pub LayerReasonsIn : Type 0

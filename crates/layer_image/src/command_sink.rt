@@ -11,7 +11,7 @@ ghost use Rattle.gerber_text.specs.Writing.{without_places};
 ghost use Rattle.pad_shapes.specs.declared.wide_pad.WidePad.{WidePad as ThePad};
 ghost use Rattle.layer_state.specs.Faults.{IsFirstFault};
 ghost use Rattle.layer_state.specs.Holding.{is_scanning_region};
-ghost use Rattle.layer_state.specs.Rules.{broken_rule};
+ghost use Rattle.layer_state.specs.Rules.{broken_rule_in};
 ghost use Rattle.layer_features.specs.declared.keep.Keep.{Keep as TheKeep};
 
 use gerber_text::{Command, PassedOperation, Placed, TextKind};
@@ -22,8 +22,8 @@ use std::alloc::{AllocError, Global};
 /// Takes in the commands of a layer as they are read: they are judged, and what is asked for of what they make is held.
 // What reads a piece of a text is generic over it, so that nothing is chosen by the profile at each command.
 pub(crate) trait CommandSink {
-    /// Whether just these commands were met, none of them breaks a rule, and of what they make is held what is kept in a
-    /// profile. These pads were taken out on the way.
+    /// Whether just these commands were met, none of them breaks a rule of a profile, and of what they make is held what is
+    /// kept in it. These pads were taken out on the way.
     ghost has_met: { TheProfile → TheKeep → List ThePad → Self → Entries → Type 0 };
 
     /// Whether a region is open.
@@ -36,7 +36,7 @@ pub(crate) trait CommandSink {
     /// The fault of the first command that breaks a rule; `Memory` where an allocation failed.
     fn take_commands(&mut self, alloc: Global, entries: &[Placed<Command>]) -> Result<(), Fail>
         ensures ok { (profile : TheProfile) (keep : TheKeep) (taken : List ThePad) (before : Entries) → has_met profile keep taken self.old before → OnOk result (has_met profile keep taken self.new (before ++ entries.now)) }
-        ensures refused { (profile : TheProfile) (keep : TheKeep) (taken : List ThePad) (before : Entries) → has_met profile keep taken self.old before → IfErr result (IfFault (IsFirstFault (before ++ entries.now))) };
+        ensures refused { (profile : TheProfile) (keep : TheKeep) (taken : List ThePad) (before : Entries) → has_met profile keep taken self.old before → IfErr result (IfFault (IsFirstFault profile (before ++ entries.now))) };
 
     /// Checks an operation that a reader has passed, and takes it in.
     ///
@@ -45,7 +45,7 @@ pub(crate) trait CommandSink {
     /// The fault of an operation that breaks a rule; `Memory` where an allocation failed.
     fn take_operation(&mut self, passed: &PassedOperation) -> Result<(), Fail>
         ensures ok { (profile : TheProfile) (keep : TheKeep) (taken : List ThePad) (before : Entries) → has_met profile keep taken self.old before → OnOk result (has_met profile keep taken self.new (before ++ passed_entries passed.now)) }
-        ensures refused { (profile : TheProfile) (keep : TheKeep) (taken : List ThePad) (before : Entries) → has_met profile keep taken self.old before → IfErr result (IfFault (IsFirstFault (before ++ passed_entries passed.now))) };
+        ensures refused { (profile : TheProfile) (keep : TheKeep) (taken : List ThePad) (before : Entries) → has_met profile keep taken self.old before → IfErr result (IfFault (IsFirstFault profile (before ++ passed_entries passed.now))) };
 
     /// Takes in a comment or an attribute of this text that a reader has passed, outside of regions.
     ///
@@ -61,7 +61,7 @@ pub(crate) trait CommandSink {
         ensures { result ≡ is_in_region self.now };
 
     /// Commands that were met break no rule.
-    ghost legal: { (profile : TheProfile) (keep : TheKeep) (taken : List ThePad) (sink : Self) (entries : Entries) → has_met profile keep taken sink entries → IsLegal broken_rule (without_places entries) };
+    ghost legal: { (profile : TheProfile) (keep : TheKeep) (taken : List ThePad) (sink : Self) (entries : Entries) → has_met profile keep taken sink entries → IsLegal (broken_rule_in profile) (without_places entries) };
 }
 
 /// A judge, where the flashes of the strict profile are all that is needed.

@@ -54,9 +54,9 @@ impl LayerContent {
         ensures { HasContent profile keep [] result [] }
     {
         match flashes_kept(profile, keep) {
-            Some(kept) => LayerContent::Flashes(Scan::new(alloc, kept)),
+            Some(kept) => LayerContent::Flashes(Scan::new(alloc, profile, kept)),
             None => LayerContent::Features(Met {
-                scan: Scan::new(alloc, FlashKeep::Flashes),
+                scan: Scan::new(alloc, profile, FlashKeep::Flashes),
                 copper: Copper::new(alloc, keep),
             }),
         }
@@ -73,7 +73,7 @@ impl LayerContent {
         entries: &[Placed<Command>],
     ) -> Result<(), Fail>
         ensures ok { (profile : TheProfile) (keep : TheKeep) (taken : List ThePad) (before : Entries) → HasContent profile keep taken self.old before → OnOk result (HasContent profile keep taken self.new (before ++ entries.now)) }
-        ensures refused { (profile : TheProfile) (keep : TheKeep) (taken : List ThePad) (before : Entries) → HasContent profile keep taken self.old before → IfErr result (IfFault (IsFirstFault (before ++ entries.now))) }
+        ensures refused { (profile : TheProfile) (keep : TheKeep) (taken : List ThePad) (before : Entries) → HasContent profile keep taken self.old before → IfErr result (IfFault (IsFirstFault profile (before ++ entries.now))) }
     {
         match self {
             LayerContent::Flashes(scan) => scan.take_commands(alloc, entries),
@@ -191,7 +191,7 @@ fn layer_of_features(
     profile: Profile,
     commands: Vec<Placed<Command>>,
 ) -> Result<Layer, AllocError>
-    ensures { (keep : TheKeep) (taken : List ThePad) (entries : Entries) → flashes_kept profile keep ≡ None → HasMetLegal keep taken met entries → commands.items ≡ (if keeps_commands keep then entries else []) → IfOk result (IsKeptOf profile keep (left_pads met.copper.kept taken) entries) }
+    ensures { (keep : TheKeep) (taken : List ThePad) (entries : Entries) → flashes_kept profile keep ≡ None → HasMetLegal profile keep taken met entries → commands.items ≡ (if keeps_commands keep then entries else []) → IfOk result (IsKeptOf profile keep (left_pads met.copper.kept taken) entries) }
 {
     let Met { scan, copper } = met;
     let parts = copper.finish()?;

@@ -4,7 +4,7 @@ ghost use Rattle.std.specs.Prelude.{◌≡◌, ◌++◌, ℕ, List, Err};
 ghost use Rattle.grid_units.specs.declared.profile.Profile.{Profile};
 ghost use Rattle.gerber_commands.specs.declared.command.Command.{Command};
 ghost use Rattle.gerber_commands.specs.declared.command.Command.TheVariants.{Clear, Dark};
-ghost use Rattle.layer_state.specs.Rules.{broken_rule};
+ghost use Rattle.layer_state.specs.Rules.{broken_rule_in};
 ghost use Rattle.grid_units.specs.declared.fault.Fault.{Fault};
 ghost use Rattle.layer_image.specs.Layers.{EachTextAnswersIn, EqualCommands, LayerReasonsIn, LayerTexts, LayersOfTextsIn, ReadingIsUniqueIn, ReadsLayerIn, StrictLayers};
 ghost use Rattle.layer_image.specs.Holding.{ShowsLayerFaultIn};
@@ -15,7 +15,7 @@ pub fn equal_commands()
     ensures { EqualCommands }
 {}
 
-/// The pads among the flashes of a legal list, and of a layer, are the pads that its commands make. Commands make at
+/// The pads among the flashes of a list that is legal in a profile, and of a layer, are the pads that its commands make. Commands make at
 /// most one list of pads, and just the pads that some command makes are in it.
 pub fn flashed_pads()
     ensures legal { LegalPads }
@@ -24,14 +24,14 @@ pub fn flashed_pads()
     ensures each { PadsAreFlashed }
 {}
 
-/// Each command of a legal list adds a flash for each copy that it makes.
+/// Each command of a list that is legal in a profile adds a flash for each copy that it makes.
 pub fn copied_flashes()
     ensures { FlashesAreCopies }
 {}
 
 /// Clear polarity is judged as dark polarity is, after any commands: in a region it is InRegion, else it breaks no rule.
 pub fn clear_polarity()
-    ensures { (before : List Command) → broken_rule before Clear ≡ broken_rule before Dark }
+    ensures { (profile : Profile) (before : List Command) → broken_rule_in profile before Clear ≡ broken_rule_in profile before Dark }
 {}
 
 /// In each profile a text is a layer's text of some commands just where reading it gives these and they are legal; it reads as one layer,

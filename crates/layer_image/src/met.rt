@@ -2,6 +2,7 @@
 
 ghost use Rattle.std.specs.Prelude.{◌≡◌, ◌++◌, [], ◌∷◌, List, IfErr, OnOk, None};
 ghost use Rattle.grid_units.specs.Results.{IfFault};
+ghost use Rattle.grid_units.specs.declared.profile.Profile.{Profile as TheProfile};
 ghost use Rattle.gerber_text.specs.Reading.{Entries};
 ghost use Rattle.gerber_text.specs.Holding.{passed_entries};
 ghost use Rattle.pad_shapes.specs.declared.wide_pad.WidePad.{WidePad as ThePad};
@@ -29,8 +30,8 @@ impl Met {
 
     /// Checks one more command and takes it in.
     fn take_command(&mut self, alloc: Global, entry: &Placed<Command>) -> Result<(), Fail>
-        ensures ok { (keep : TheKeep) (taken : List ThePad) (before : Entries) → HasMetLegal keep taken self.old before → OnOk result (HasMetLegal keep taken self.new (before ++ entry.now ∷ [])) }
-        ensures refused { (keep : TheKeep) (taken : List ThePad) (before : Entries) → HasMetLegal keep taken self.old before → IfErr result (IfFault (IsFirstFault (before ++ entry.now ∷ []))) }
+        ensures ok { (profile : TheProfile) (keep : TheKeep) (taken : List ThePad) (before : Entries) → HasMetLegal profile keep taken self.old before → OnOk result (HasMetLegal profile keep taken self.new (before ++ entry.now ∷ [])) }
+        ensures refused { (profile : TheProfile) (keep : TheKeep) (taken : List ThePad) (before : Entries) → HasMetLegal profile keep taken self.old before → IfErr result (IfFault (IsFirstFault profile (before ++ entry.now ∷ []))) }
     {
         let before = *self.scan.current();
         self.scan.take(alloc, entry)?;
@@ -48,8 +49,8 @@ impl Met {
     // In line, since a call would take what the reader holds of each operation through memory, of those that pass too.
     #[inline(always)]
     fn add_operation(&mut self, passed: &PassedOperation) -> Result<(), Fail>
-        ensures ok { (keep : TheKeep) (taken : List ThePad) (before : Entries) → HasMetLegal keep taken self.old before → OnOk result (HasMetLegal keep taken self.new (before ++ passed_entries passed.now)) }
-        ensures refused { (keep : TheKeep) (taken : List ThePad) (before : Entries) → HasMetLegal keep taken self.old before → IfErr result (IfFault (IsFirstFault (before ++ passed_entries passed.now))) }
+        ensures ok { (profile : TheProfile) (keep : TheKeep) (taken : List ThePad) (before : Entries) → HasMetLegal profile keep taken self.old before → OnOk result (HasMetLegal profile keep taken self.new (before ++ passed_entries passed.now)) }
+        ensures refused { (profile : TheProfile) (keep : TheKeep) (taken : List ThePad) (before : Entries) → HasMetLegal profile keep taken self.old before → IfErr result (IfFault (IsFirstFault profile (before ++ passed_entries passed.now))) }
     {
         let before = *self.scan.current();
         self.scan.operate(passed)?;
@@ -68,7 +69,7 @@ impl Met {
 impl CommandSink for Met {
     ghost use Rattle.layer_image.specs.Holding.{HasMetLegal};
 
-    ghost has_met = { λ profile keep taken met entries. (flashes_kept profile keep ≡ None) × HasMetLegal keep taken met entries };
+    ghost has_met = { λ profile keep taken met entries. (flashes_kept profile keep ≡ None) × HasMetLegal profile keep taken met entries };
 
     ghost is_in_region = { λ met. is_scanning_region met.scan };
 

@@ -14,6 +14,8 @@ pub use Rattle.grid_units.specs.Numbers.{is_too_far, picometres, unit_length}
 pub use Rattle.grid_units.specs.Points.{GridPoint, max_coordinate}
 pub use Rattle.grid_units.specs.Results.{IfFault, fault, with_place, ◌>>=◌}
 pub use Rattle.grid_units.specs.declared.item_fail.ItemFail.{ItemFail}
+pub use Rattle.grid_units.specs.declared.profile.Profile.{Profile}
+pub use Rattle.grid_units.specs.declared.profile.Profile.TheVariants.{Strict, Wide}
 pub use Rattle.layer_state.specs.Faults.{IsFirstFault, fail_at, fault_of}
 pub use Rattle.layer_state.specs.FileFunction.{file_function_of, function_set}
 pub use Rattle.layer_state.specs.Flashes.{added_flashes, aperture_flashes, copies, copies_at, copy_at, current_decimals, current_unit, flash_at, flashes_of, grid_at, is_flash, is_other, numbers_below, obround_at, other_count, pad_in, pads_of, rect_at, rules_out_pad, shape_at, swaps_sides, what_at, why_order}
@@ -22,12 +24,12 @@ pub use Rattle.layer_state.specs.Inner.FastOperations.{AreCachedValues, AreLengt
 pub use Rattle.layer_state.specs.Inner.IsStateAfter.{Applies, AppliesOrRefuses, IsStateAfter, after, current_after, state_of, state_with}
 pub use Rattle.layer_state.specs.Inner.MovedPads.{flash_moved, moved_what, origin}
 pub use Rattle.layer_state.specs.KeptFlashes.{Adds, KeepsFlashes, KeptParts, flash_count, keeps_flashes, keeps_pads, keeps_shapes}
-pub use Rattle.layer_state.specs.Lookback.{GraphicsState, aperture_selected, block_set, current_aperture, current_of, defines_macro, definition_set, format_set, no_repeat, region_set, scale_set, state_after, turn_set, unit_set, x_set, y_set}
+pub use Rattle.layer_state.specs.Lookback.{GraphicsState, aperture_selected, block_set, current_aperture, current_of, defines_macro, definition_set, format_set, no_repeat, region_set, scale_set, state_after, template_numbered, template_set, turn_set, unit_set, x_set, y_set}
 pub use Rattle.layer_state.specs.Placing.{in_order, is_turned_over, no_mirroring, oriented_point, oriented_shape, rounded_by}
-pub use Rattle.layer_state.specs.Rules.{breaks_rule, broken_rule, flashes_too_far, has_too_many_digits, is_far_coordinate, is_far_pad, is_far_point, is_long_coordinate, makes_too_many_flashes, needs_aperture, reaches_too_far, sets_bad_size}
+pub use Rattle.layer_state.specs.Rules.{breaks_rule, broken_rule_in, flashes_too_far, has_too_many_digits, is_far_coordinate, is_far_pad, is_far_point, is_long_coordinate, makes_too_many_flashes, may_define_again, needs_aperture, reaches_too_far, sets_bad_size}
 unfoldable pub use Rattle.layer_state.specs.Rules.{first_broken}
 pub use Rattle.layer_state.specs.Shapes.{defined_numbered, defined_set, macro_named, macro_set}
-pub use Rattle.layer_state.specs.Tables.{aperture_at, defined_at, has_name, macro_at, pieces_at}
+pub use Rattle.layer_state.specs.Tables.{aperture_at, defined_at, has_name, is_allowed_again, macro_at, pieces_at, profile_of, template_at}
 pub use Rattle.layer_state.specs.declared.current.Current.{Current}
 pub use Rattle.layer_state.specs.declared.flash.Flash.{Flash}
 pub use Rattle.layer_state.specs.declared.flashes.Flashes.{Flashes}

@@ -1,5 +1,5 @@
 -- Most operations break no rule, and a flash among them makes one flash.
-use Rattle.layer_state.proofs.Common.{◌≡◌, ℕ, ◌+◌, ◌*◌, ◌/◌, ◌^◌, ◌<◌, ◌≤◌, ℤ, pos, ◌*ℤ◌, unsigned_abs, true, false, cond, not, ◌||◌, ◌&&◌, nat_le, nat_lt, List, [], ◌∷◌, map, length, Option, None, Some, Ok, unwrap_or, is_none, refl, sym, ap, subst, ◌∙◌, arith, mul-le-mul_right, unsigned_abs-mul, option_map_or, option_and_then, flat_map, list_any, GridPoint, max_coordinate, is_too_far, picometres, unit_length, Action, Command, Flash, Flashes, State, GraphicsState, current_aperture, numbers_below, copies, copies_at, copy_at, grid_at, is_flash, aperture_flashes, flash_at, added_flashes, current_of, current_unit, current_decimals, what_at, moved_what, origin, first_broken, needs_aperture, has_too_many_digits, reaches_too_far, makes_too_many_flashes, flashes_too_far, is_long_coordinate, is_far_coordinate, is_far_pad, is_far_point, KeptParts, Adds, flash_count, IsStateAfter, Applies, AppliesOrRefuses, after, state_of, defined_at, pieces_at, AreLengths, IsSingleFlash, AreCachedValues, IsFlashOf, changes_cached, is_far_flash, is_within, point_of, and_false}
+use Rattle.layer_state.proofs.Common.{◌≡◌, ℕ, ◌+◌, ◌*◌, ◌/◌, ◌^◌, ◌<◌, ◌≤◌, ℤ, pos, ◌*ℤ◌, unsigned_abs, true, false, cond, not, ◌||◌, ◌&&◌, nat_le, nat_lt, List, [], ◌∷◌, map, length, Option, None, Some, Ok, unwrap_or, is_none, refl, sym, ap, subst, ◌∙◌, arith, mul-le-mul_right, unsigned_abs-mul, option_map_or, option_and_then, flat_map, list_any, GridPoint, max_coordinate, is_too_far, picometres, unit_length, Action, Command, Flash, Flashes, State, GraphicsState, current_aperture, numbers_below, copies, copies_at, copy_at, grid_at, is_flash, aperture_flashes, flash_at, added_flashes, current_of, current_unit, current_decimals, what_at, moved_what, origin, first_broken, needs_aperture, has_too_many_digits, reaches_too_far, makes_too_many_flashes, flashes_too_far, is_long_coordinate, is_far_coordinate, is_far_pad, is_far_point, KeptParts, Adds, flash_count, IsStateAfter, Applies, AppliesOrRefuses, after, state_of, defined_at, pieces_at, AreLengths, IsSingleFlash, AreCachedValues, IsFlashOf, changes_cached, is_far_flash, is_within, point_of, and_false, Bool, is_allowed_again, profile_of, template_at}
 use Rattle.std.proofs.lemmas.Bool.Decides.{nat_tests}
 use Rattle.grid_units.specs.declared.fault.Reason.TheVariants as reason
 use Rattle.grid_units.specs.declared.lengths.Unit.{Unit as Units}
@@ -20,12 +20,12 @@ use Rattle.layer_state.proofs.MovedFlashes.{what_moved}
 use Rattle.layer_state.proofs.DigitLemmas.{test_no}
 
 -- an operation breaks no rule where these rules do not apply
-pub no_rule_broken : (s : GraphicsState) (count : ℕ) (action : Action) (x y i j : Option ℤ)
+pub no_rule_broken : (again : Bool) (s : GraphicsState) (count : ℕ) (action : Action) (x y i j : Option ℤ)
     → (not (not (is_flash action)) && s.in_region) ≡ false → is_none s.format ≡ false → is_none s.unit ≡ false → (needs_aperture action s.in_region && is_none s.selected) ≡ false
     → has_too_many_digits s (command.Operate action x y i j) ≡ false → reaches_too_far s (command.Operate action x y i j) ≡ false → makes_too_many_flashes s count (command.Operate action x y i j) ≡ false
-    → first_broken s count (command.Operate action x y i j) ≡ None
+    → first_broken again s count (command.Operate action x y i j) ≡ None
 unfolding first_broken
-no_rule_broken s count action x y i j a b c d e f g = λ k.
+no_rule_broken again s count action x y i j a b c d e f g = λ k.
     cond (a k) (Some reason.InRegion) (cond (b k) (Some reason.NoFormat) (cond (c k) (Some reason.NoUnit) (cond (d k) (Some reason.NoAperture)
     (cond (e k) (Some reason.TooManyDigits) (cond (f k) (Some reason.TooFar) (cond (g k) (Some reason.TooManyPads) None))))))
 
@@ -130,22 +130,22 @@ not_one_too_many : (count : ℕ) → count < 4194304 → nat_lt 4194304 (count +
 not_one_too_many count h = grind (arith, nat_tests)
 
 -- an operation that is no flash, whose numbers are in range, breaks no rule
-pub move_is_legal : (s : GraphicsState) (count : ℕ) (l : Lengths) (action : Action) (x y i j : Option ℤ) → l.limit * l.place ≤ 10000000000000 → AreLengths l s.unit s.format
+pub move_is_legal : (again : Bool) (s : GraphicsState) (count : ℕ) (l : Lengths) (action : Action) (x y i j : Option ℤ) → l.limit * l.place ≤ 10000000000000 → AreLengths l s.unit s.format
     → is_flash action ≡ false → (needs_aperture action s.in_region && is_none s.selected) ≡ false
-    → is_within l.limit x ≡ true → is_within l.limit y ≡ true → is_within l.limit i ≡ true → is_within l.limit j ≡ true → first_broken s count (command.Operate action x y i j) ≡ None
-move_is_legal s count l action x y i j near known still has a b c d =
+    → is_within l.limit x ≡ true → is_within l.limit y ≡ true → is_within l.limit i ≡ true → is_within l.limit j ≡ true → first_broken again s count (command.Operate action x y i j) ≡ None
+move_is_legal again s count l action x y i j near known still has a b c d =
     let h = named_lengths l s.unit s.format known in
-    no_rule_broken s count action x y i j (λ k. not (not (still k)) && s.in_region) (λ k. is_none (h.format_is k)) (λ k. is_none (h.unit_is k)) has (few_digits s l action x y i j h a b c d)
+    no_rule_broken again s count action x y i j (λ k. not (not (still k)) && s.in_region) (λ k. is_none (h.format_is k)) (λ k. is_none (h.unit_is k)) has (few_digits s l action x y i j h a b c d)
     (λ k. (not_far_coordinate s l x near h a k || not_far_coordinate s l y near h b k) || (still k && flashes_too_far s x y))
     (λ k. still k && nat_lt 4194304 (count + length (copies_at s x y)))
 
 -- a flash at one point in range, of what is near, breaks no rule
-pub flash_is_legal : (s : GraphicsState) (count : ℕ) (l : Lengths) (w : What) (action : Action) (x y i j : Option ℤ) (flash : Flash) → l.limit * l.place ≤ 10000000000000 → AreLengths l s.unit s.format
+pub flash_is_legal : (again : Bool) (s : GraphicsState) (count : ℕ) (l : Lengths) (w : What) (action : Action) (x y i j : Option ℤ) (flash : Flash) → l.limit * l.place ≤ 10000000000000 → AreLengths l s.unit s.format
     → IsSingleFlash w (current_unit (current_of s)) (current_aperture s) s.scale s.turn s.block → is_flash action ≡ true → s.in_region ≡ false → count < 4194304
     → nat_le (unsigned_abs (unwrap_or x s.x)) l.limit ≡ true → nat_le (unsigned_abs (unwrap_or y s.y)) l.limit ≡ true → is_within l.limit i ≡ true → is_within l.limit j ≡ true
     → flash ≡ record { at = point_of l (unwrap_or x s.x) (unwrap_or y s.y); what = moved_what (point_of l (unwrap_or x s.x) (unwrap_or y s.y)) w }
-    → IsFlashOf s count (command.Operate action x y i j) flash
-flash_is_legal s count l w action x y i j flash near known is_lone flashes outside few a b c d is =
+    → IsFlashOf again s count (command.Operate action x y i j) flash
+flash_is_legal again s count l w action x y i j flash near known is_lone flashes outside few a b c d is =
     let h = named_lengths l s.unit s.format known in
     let single_copy = single_shape w (current_unit (current_of s)) (current_aperture s) s.scale s.turn s.block is_lone in
     let p : GridPoint = point_of l (unwrap_or x s.x) (unwrap_or y s.y) in
@@ -159,7 +159,7 @@ flash_is_legal s count l w action x y i j flash near known is_lone flashes outsi
     let selected : is_none s.selected ≡ false = some_selected s.definition s.selected single_copy.shape single_copy.shape_is in
     record {
       legal =
-          no_rule_broken s count action x y i j (λ k. not (not (flashes k)) && outside k) (λ k. is_none (h.format_is k)) (λ k. is_none (h.unit_is k))
+          no_rule_broken again s count action x y i j (λ k. not (not (flashes k)) && outside k) (λ k. is_none (h.format_is k)) (λ k. is_none (h.unit_is k))
           ((λ k. needs_aperture action s.in_region && selected k) ∙ and_false (needs_aperture action s.in_region)) (few_digits s l action x y i j h named_x named_y c d)
           (λ k. (not_far_coordinate s l x near h named_x k || not_far_coordinate s l y near h named_y k) || (flashes k && (near_point k || near_pad k)))
           ((λ k. flashes k && nat_lt 4194304 (count + length (one k))) ∙ not_one_too_many count few);
@@ -203,6 +203,8 @@ move_applies old new action x y i j move state_after macros apertures same =
     let none : added_flashes (state_of old) (command.Operate action x y i j) ≡ [] = λ k. cond (move k) (option_map_or (aperture_flashes (state_of old) x y) (current_aperture (state_of old)) []) [] in
     record {
       state_after = state_after;
+      profile = ap profile_of apertures;
+      templates = λ asked. ap template_at apertures;
       macros = λ asked. ap pieces_at macros;
       apertures = λ asked. ap defined_at apertures;
       flashes = subst (λ (f : Flashes). Adds old.flashes (added_flashes (state_of old) (command.Operate action x y i j)) f) (sym same) (subst (λ (l : List Flash). Adds old.flashes l old.flashes) (sym none) (adds_none old.flashes));
@@ -211,7 +213,7 @@ move_applies old new action x y i j move state_after macros apertures same =
 pub flash_applies : (old new : State) (action : Action) (x y i j : Option ℤ) (flash : Flash) → added_flashes (state_of old) (command.Operate action x y i j) ≡ flash ∷ [] → state_of new ≡ after (command.Operate action x y i j) (state_of old)
     → new.macros ≡ old.macros → new.apertures ≡ old.apertures → Adds old.flashes (flash ∷ []) new.flashes → Applies old (command.Operate action x y i j) new
 flash_applies old new action x y i j flash is state_after macros apertures adds =
-    record { state_after = state_after; macros = λ asked. ap pieces_at macros; apertures = λ asked. ap defined_at apertures; flashes = subst (λ (l : List Flash). Adds old.flashes l new.flashes) (sym is) adds }
+    record { state_after = state_after; profile = ap profile_of apertures; templates = λ asked. ap template_at apertures; macros = λ asked. ap pieces_at macros; apertures = λ asked. ap defined_at apertures; flashes = subst (λ (l : List Flash). Adds old.flashes l new.flashes) (sym is) adds }
 
-pub step_result : (old new : State) (c : Command) → first_broken (state_of old) (flash_count old.flashes) c ≡ None → Applies old c new → (parts : KeptParts) (before : List Command) → IsStateAfter old parts before → AppliesOrRefuses parts before c new (Ok tt)
+pub step_result : (old new : State) (c : Command) → first_broken (is_allowed_again old.apertures c) (state_of old) (flash_count old.flashes) c ≡ None → Applies old c new → (parts : KeptParts) (before : List Command) → IsStateAfter old parts before → AppliesOrRefuses parts before c new (Ok tt)
 step_result old new c legal takes parts before is_state = (sym (same_rule old parts before c is_state) ∙ legal, state_after_one_more old new parts before c is_state takes)

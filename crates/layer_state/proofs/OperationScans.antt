@@ -1,5 +1,5 @@
 -- A scan that meets an interpolation or an operation.
-use Rattle.layer_state.proofs.Common.{◌≡◌, ℕ, ℤ, [], ◌∷◌, ◌++◌, List, Option, None, Some, Result, Ok, Err, refl, sym, ap, subst, ◌∙◌, append-nil, append_assoc, map-append, violations, last_set-more, violations-more, ItemFail, Action, Command, Mode, Operate, Placed, Entries, item_entries, without_places, State, Scan, function_set, HasScanned, HasScannedLegal, IsScanResult, Applies, AppliesOrRefuses, state_of, KeptParts, flash_count, GraphicsState, broken_rule, first_broken}
+use Rattle.layer_state.proofs.Common.{◌≡◌, ℕ, ℤ, [], ◌∷◌, ◌++◌, List, Option, None, Some, Result, Ok, Err, refl, sym, ap, subst, ◌∙◌, append-nil, append_assoc, map-append, violations, last_set-more, violations-more, ItemFail, Action, Command, Mode, Operate, Placed, Entries, item_entries, without_places, State, Scan, function_set, HasScanned, HasScannedLegal, IsScanResult, Applies, AppliesOrRefuses, state_of, KeptParts, flash_count, GraphicsState, broken_rule_in, first_broken, Bool, is_allowed_again}
 use Rattle.grid_units.specs.declared.item_fail.ItemFail.TheVariants.{Memory, Refused}
 use Rattle.gerber_commands.specs.declared.command.Interpolation.{Interpolation}
 use Rattle.gerber_commands.specs.Rows.{modes_of}
@@ -12,21 +12,21 @@ scanned_more old new parts before e h answer =
     let whats : without_places (before ++ e ∷ []) ≡ without_places before ++ e.what ∷ [] = map-append (λ (d : Placed Command). d.what) before (e ∷ []) in
     record {
       met = subst (HasScanned new parts) (sym whats) answer.1;
-      legal = ap (violations broken_rule) whats ∙ violations-more broken_rule (without_places before) e.what h.legal answer.0;
+      legal = ap (violations (broken_rule_in parts.profile)) whats ∙ violations-more (broken_rule_in parts.profile) (without_places before) e.what h.legal answer.0;
     }
 
-mode_is_legal : (s : GraphicsState) (count : ℕ) (mode : Interpolation) → first_broken s count (Mode mode) ≡ None
+mode_is_legal : (again : Bool) (s : GraphicsState) (count : ℕ) (mode : Interpolation) → first_broken again s count (Mode mode) ≡ None
 unfolding first_broken
-mode_is_legal s count mode = refl
+mode_is_legal again s count mode = refl
 
 mode_applies : (state : State) (mode : Interpolation) → Applies state (Mode mode) state
-mode_applies state mode = record { state_after = refl; macros = λ asked. refl; apertures = λ asked. refl; flashes = adds_none state.flashes }
+mode_applies state mode = record { state_after = refl; profile = refl; templates = λ asked. refl; macros = λ asked. refl; apertures = λ asked. refl; flashes = adds_none state.flashes }
 
 -- an interpolation breaks no rule, and changes nothing that the scan holds
 mode_result : (scan : Scan) (parts : KeptParts) (before : List Command) (mode : Interpolation) → HasScanned scan parts before → IsScanResult parts before (Mode mode) scan (Ok tt)
 mode_result scan parts before mode h =
     let state = scan.state.state in (
-      sym (same_rule state parts before (Mode mode) h.is_state) ∙ mode_is_legal (state_of state) (flash_count state.flashes) mode,
+      sym (same_rule state parts before (Mode mode) h.is_state) ∙ mode_is_legal (is_allowed_again state.apertures (Mode mode)) (state_of state) (flash_count state.flashes) mode,
       record {
         is_state = state_after_one_more state state parts before (Mode mode) h.is_state (mode_applies state mode);
         named = h.named ∙ sym (last_set-more function_set before (Mode mode));

@@ -17,28 +17,28 @@ none_found p (y ∷ xs) ys x h = by (p y) refl (none_found p xs ys x)
     by false e rest = rest (ap (λ b. cond b (Some y) (find p (xs ++ x ∷ ys))) (sym e) ∙ h)
 
 -- a command that breaks no rule does not reach too far
-pub not_too_far : (s : GraphicsState) (count : ℕ) (c : Command) → first_broken s count c ≡ None → reaches_too_far s c ≡ false
+pub not_too_far : (again : Bool) (s : GraphicsState) (count : ℕ) (c : Command) → first_broken again s count c ≡ None → reaches_too_far s c ≡ false
 unfolding first_broken
-not_too_far s count c h =
-    none_found (breaks_rule s count c)
+not_too_far again s count c h =
+    none_found (breaks_rule again s count c)
     (reason.InRegion ∷ reason.NotInRegion ∷ reason.NoFormat ∷ reason.NoUnit ∷ reason.UnitConflict ∷ reason.FormatConflict ∷ reason.Redefined
     ∷ reason.UnknownMacro ∷ reason.UnknownAperture ∷ reason.NoAperture ∷ reason.BadSize ∷ reason.BadRepeat ∷ reason.TooManyDigits ∷ [])
     (reason.TooManyPads ∷ []) reason.TooFar h
 
 -- nor do its flashes make too many
-pub not_too_many : (s : GraphicsState) (count : ℕ) (c : Command) → first_broken s count c ≡ None → makes_too_many_flashes s count c ≡ false
+pub not_too_many : (again : Bool) (s : GraphicsState) (count : ℕ) (c : Command) → first_broken again s count c ≡ None → makes_too_many_flashes s count c ≡ false
 unfolding first_broken
-not_too_many s count c h =
-    none_found (breaks_rule s count c)
+not_too_many again s count c h =
+    none_found (breaks_rule again s count c)
     (reason.InRegion ∷ reason.NotInRegion ∷ reason.NoFormat ∷ reason.NoUnit ∷ reason.UnitConflict ∷ reason.FormatConflict ∷ reason.Redefined
     ∷ reason.UnknownMacro ∷ reason.UnknownAperture ∷ reason.NoAperture ∷ reason.BadSize ∷ reason.BadRepeat ∷ reason.TooManyDigits ∷ reason.TooFar ∷ [])
     [] reason.TooManyPads h
 
 -- nor does it have a size out of its range
-pub sizes_in_range : (s : GraphicsState) (count : ℕ) (c : Command) → first_broken s count c ≡ None → sets_bad_size c ≡ false
+pub sizes_in_range : (again : Bool) (s : GraphicsState) (count : ℕ) (c : Command) → first_broken again s count c ≡ None → sets_bad_size c ≡ false
 unfolding first_broken
-sizes_in_range s count c h =
-    none_found (breaks_rule s count c)
+sizes_in_range again s count c h =
+    none_found (breaks_rule again s count c)
     (reason.InRegion ∷ reason.NotInRegion ∷ reason.NoFormat ∷ reason.NoUnit ∷ reason.UnitConflict ∷ reason.FormatConflict ∷ reason.Redefined
     ∷ reason.UnknownMacro ∷ reason.UnknownAperture ∷ reason.NoAperture ∷ [])
     (reason.BadRepeat ∷ reason.TooManyDigits ∷ reason.TooFar ∷ reason.TooManyPads ∷ []) reason.BadSize h

@@ -13,7 +13,7 @@ use Rattle.layer_state.specs.Flashes.{flashes_of, other_count, pads_of}
 use Rattle.layer_state.specs.FileFunction.{file_function_of}
 use Rattle.layer_state.specs.KeptFlashes.{KeptParts, keeps_flashes, keeps_pads}
 use Rattle.layer_state.specs.Inner.IsStateAfter.{IsStateAfter}
-use Rattle.layer_state.specs.Rules.{broken_rule}
+use Rattle.layer_state.specs.Rules.{broken_rule_in}
 use Rattle.gerber_text.specs.Writing.{without_places}
 
 -- the scan has met just these commands
@@ -31,14 +31,14 @@ scanned_flashes scan = scan.state.state.flashes.all.items
 
 -- The command breaks no rule and was taken in, or this is the first rule that it breaks, or memory ran out.
 abbrev pub IsScanResult : KeptParts → List Command → Command → Scan → Result (Unit {0}) ItemFail → Type 0
-IsScanResult parts before c new (Ok _) = (broken_rule before c ≡ None) × HasScanned new parts (before ++ c ∷ [])
-IsScanResult parts before c new (Err (Refused reason)) = broken_rule before c ≡ Some reason
+IsScanResult parts before c new (Ok _) = (broken_rule_in parts.profile before c ≡ None) × HasScanned new parts (before ++ c ∷ [])
+IsScanResult parts before c new (Err (Refused reason)) = broken_rule_in parts.profile before c ≡ Some reason
 IsScanResult parts before c new (Err Memory) = Unit {0}
 
 -- the scan has met just these commands, and none of them breaks a rule
 pub record HasScannedLegal (scan : Scan) (parts : KeptParts) (entries : Entries) : Type 0 where
   pub met : HasScanned scan parts (without_places entries)
-  pub legal : IsLegal broken_rule (without_places entries)
+  pub legal : IsLegal (broken_rule_in parts.profile) (without_places entries)
 
 -- the pads that a scan holds, without those that were taken from it
 abbrev pub scanned_pads : Scan → List Pad

@@ -1,5 +1,6 @@
 -- What is kept of the flashes of the strict profile.
 use Rattle.std.specs.Prelude.{◌≡◌, ℕ, ◌+◌, Bool, true, false, List, [], ◌++◌, length, if◌then◌else◌}
+use Rattle.grid_units.specs.declared.profile.Profile.{Profile}
 use Rattle.pad_shapes.specs.declared.pad.Pad.{Pad}
 use Rattle.layer_state.specs.declared.flash.Flash.{Flash}
 use Rattle.layer_state.specs.declared.flashes.Flashes.{Flashes}
@@ -24,19 +25,20 @@ abbrev pub keeps_shapes : FlashKeep → Bool
 keeps_shapes keep.Flashes = true
 keeps_shapes _ = false
 
--- the parts of a layer that are kept, and the pads and the flashes that were taken from them, the first ones of the layer
+-- the profile in which a layer is read, the parts of it that are kept, and the pads and the flashes that were taken from them, the first ones of the layer
 pub record KeptParts : Type 0 where
+  pub profile : Profile
   pub keep : FlashKeep
   pub taken : List Pad
   pub dropped : List Flash
 
 -- these parts, without these pads
-abbrev pub without_pads : FlashKeep → List Pad → KeptParts
-without_pads keep taken = record { keep = keep; taken = taken; dropped = [] }
+abbrev pub without_pads : Profile → FlashKeep → List Pad → KeptParts
+without_pads profile keep taken = record { profile = profile; keep = keep; taken = taken; dropped = [] }
 
 -- flashes alone, without these
-abbrev pub without_flashes : List Flash → KeptParts
-without_flashes dropped = record { keep = keep.Flashes; taken = []; dropped = dropped }
+abbrev pub without_flashes : Profile → List Flash → KeptParts
+without_flashes profile dropped = record { profile = profile; keep = keep.Flashes; taken = []; dropped = dropped }
 
 -- how many flashes there were, whatever is kept of them
 abbrev pub flash_count : Flashes → ℕ
@@ -44,11 +46,11 @@ flash_count kept = kept.count
 
 -- these parts, where the pads that are held were taken too
 abbrev pub taking_pads : KeptParts → Flashes → KeptParts
-taking_pads parts kept = record { keep = parts.keep; taken = parts.taken ++ kept.pads.items; dropped = parts.dropped }
+taking_pads parts kept = record { profile = parts.profile; keep = parts.keep; taken = parts.taken ++ kept.pads.items; dropped = parts.dropped }
 
 -- these parts, where the flashes that are held were taken too
 abbrev pub taking_flashes : KeptParts → Flashes → KeptParts
-taking_flashes parts kept = record { keep = parts.keep; taken = parts.taken; dropped = parts.dropped ++ kept.all.items }
+taking_flashes parts kept = record { profile = parts.profile; keep = parts.keep; taken = parts.taken; dropped = parts.dropped ++ kept.all.items }
 
 -- just these flashes were made: all are counted, and those that are no pads; flashes and pads are kept where they are asked for,
 -- after those that were taken

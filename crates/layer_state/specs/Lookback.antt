@@ -92,6 +92,15 @@ abbrev pub definition_set : ℕ → Command → Option Aperture
 definition_set number (command.Define other template) = if number == other then Some (aperture_of template) else None
 definition_set number _ = None
 
+-- the template that a command gives this number: `C,0.5` by `%ADD10C,0.5*%` (Gerber format, Aperture definition AD)
+abbrev pub template_set : ℕ → Command → Option Template
+template_set number (command.Define other template) = if number == other then Some template else None
+template_set number _ = None
+
+-- the template of a number is that of its last definition
+abbrev pub template_numbered : List Command → ℕ → Option Template
+template_numbered before number = last_set (template_set number) before
+
 -- a command defines the macro of this name, as `%AMROUND*..*%` that of `ROUND` (Gerber format, Aperture macro AM)
 abbrev pub defines_macro : List ℕ → Command → Bool
 defines_macro name (command.Macro other pieces) = pointwise nat_eq other name

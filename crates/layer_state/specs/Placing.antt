@@ -1,5 +1,5 @@
 -- How the shape of an aperture lies on the board: mirrored, turned and copied (Gerber format, Aperture transformations LP, LM, LR, LS).
-use Rattle.std.specs.Prelude.{ℕ, ℤ, ◌*ℤ◌, neg_ℤ, pos, Bool, false, not, ◌&&◌, ◌==◌, List, map, reverse, Option, None, Some, if◌then◌else◌}
+use Rattle.std.specs.Prelude.{ℕ, ℤ, ◌*ℤ◌, neg_ℤ, pos, Bool, false, not, List, map, reverse, Option, None, Some, if◌then◌else◌}
 use Rattle.std.specs.Option.{option_map_or}
 use Rattle.std.specs.List.{filter_map, flat_map}
 use Rattle.grid_units.specs.Points.{GridPoint}

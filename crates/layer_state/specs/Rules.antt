@@ -1,16 +1,21 @@
 -- The rules of a legal list. Each judges a command by the commands before it (docs/FORMATS.md, Rules of a layer).
-use Rattle.std.specs.Prelude.{ℕ, ◌+◌, ◌%◌, ℤ, pos, Bool, true, false, not, ◌&&◌, ◌||◌, ◌==◌, nat_lt, int_lt, int_le, unsigned_abs, List, [], ◌∷◌, length, drop, Option, is_some, is_none}
+use Rattle.std.specs.Prelude.{ℕ, nat_eq, ◌+◌, ◌%◌, ℤ, pos, Bool, true, false, not, ◌&&◌, ◌||◌, ◌==◌, nat_lt, int_lt, int_le, unsigned_abs, List, [], ◌∷◌, length, drop, Option, None, Some, is_some, is_none}
 use Rattle.std.specs.Option.{option_map_or}
 use Rattle.std.specs.List.{find, list_any}
+use Rattle.std.specs.Ordering.{int_eq}
+use Rattle.std.specs.Cmp.Lexicographic.{pointwise}
 use Rattle.grid_units.specs.Points.{GridPoint}
 use Rattle.grid_units.specs.Numbers.{picometres, is_too_far}
 use Rattle.grid_units.specs.declared.fault.Reason.{Reason}
 use Rattle.grid_units.specs.declared.fault.Reason.TheVariants as reason
 use Rattle.grid_units.specs.declared.lengths.Unit.{Unit as Units}
 use Rattle.grid_units.specs.declared.lengths.Unit.TheVariants.{Inch, Millimetre}
+use Rattle.grid_units.specs.declared.profile.Profile.{Profile}
+use Rattle.grid_units.specs.declared.profile.Profile.TheVariants.{Strict, Wide}
 use Rattle.gerber_commands.specs.declared.command.Format.{Format}
 use Rattle.gerber_commands.specs.declared.command.Action.{Action}
 use Rattle.gerber_commands.specs.declared.command.Action.TheVariants as action
+use Rattle.gerber_commands.specs.declared.command.Standard.{Standard}
 use Rattle.gerber_commands.specs.declared.command.Standard.TheVariants as standard
 use Rattle.gerber_commands.specs.declared.command.Template.{Template}
 use Rattle.gerber_commands.specs.declared.command.Template.TheVariants as template
@@ -18,7 +23,7 @@ use Rattle.gerber_commands.specs.declared.command.Command.{Command}
 use Rattle.gerber_commands.specs.declared.command.Command.TheVariants as command
 use Rattle.layer_state.specs.declared.aperture.Aperture.{Aperture}
 use Rattle.layer_state.specs.declared.aperture.Aperture.TheVariants as aperture
-use Rattle.layer_state.specs.Lookback.{GraphicsState, state_after, current_aperture, current_of, size_at}
+use Rattle.layer_state.specs.Lookback.{GraphicsState, state_after, current_aperture, current_of, size_at, template_numbered}
 use Rattle.layer_state.specs.Numbers.{dec_length, is_long}
 use Rattle.layer_state.specs.Flashes.{current_unit, current_decimals, copies_at, flashes_of, is_flash, rules_out_pad, why_order}
 
@@ -70,6 +75,31 @@ abbrev pub redefines : GraphicsState → Command → Bool
 redefines s (command.Define number template) = is_some (s.definition number)
 redefines s (command.Macro name pieces) = s.has_macro name
 redefines s _ = false
+
+-- the standard apertures are equal: both `C`
+abbrev pub same_standard : Standard → Standard → Bool
+same_standard standard.Circle standard.Circle = true
+same_standard standard.Rectangle standard.Rectangle = true
+same_standard standard.Obround standard.Obround = true
+same_standard standard.Polygon standard.Polygon = true
+same_standard _ _ = false
+
+-- the texts after the comma are equal, or neither macro has one
+abbrev pub same_parameters : Option (List ℕ) → Option (List ℕ) → Bool
+same_parameters None None = true
+same_parameters (Some text) (Some other) = pointwise nat_eq text other
+same_parameters _ _ = false
+
+-- the templates are equal, however their sizes are written: `C,0.5` and `C,.50`. So are those of a macro with equal texts after the comma
+abbrev pub same_template : Template → Template → Bool
+same_template (template.Standard which sizes) (template.Standard other others) = same_standard which other && pointwise int_eq sizes others
+same_template (template.Named name parameters) (template.Named other others) = pointwise nat_eq name other && same_parameters parameters others
+same_template _ _ = false
+
+-- an aperture is defined whose number has just this template: `%ADD10C,.50*%` after `%ADD10C,0.5*%`
+abbrev pub defines_alike : (ℕ → Option Template) → Command → Bool
+defines_alike templates (command.Define number template) = option_map_or (λ earlier. same_template earlier template) (templates number) false
+defines_alike templates _ = false
 
 -- the template is a macro that was not defined before (Gerber format, Aperture macro AM)
 abbrev pub lacks_macro : GraphicsState → Template → Bool
@@ -195,24 +225,25 @@ makes_too_many_flashes s count _ = false
 
 -- ---- the table
 
--- The table of the fifteen rules: whether a rule applies to a command, by the state that it meets and the `count` of flashes before it.
-abbrev pub breaks_rule : GraphicsState → ℕ → Command → Reason → Bool
-breaks_rule s count c reason.InRegion = not (is_allowed_in_region c) && s.in_region
-breaks_rule s count c reason.NotInRegion = ends_region c && not s.in_region
-breaks_rule s count c reason.NoFormat = needs_unit_and_format c && is_none s.format
-breaks_rule s count c reason.NoUnit = needs_unit_and_format c && is_none s.unit
-breaks_rule s count c reason.UnitConflict = differs_in_unit s c
-breaks_rule s count c reason.FormatConflict = differs_in_format s c
-breaks_rule s count c reason.Redefined = redefines s c
-breaks_rule s count c reason.UnknownMacro = uses_unknown_macro s c
-breaks_rule s count c reason.UnknownAperture = selects_unknown_aperture s c
-breaks_rule s count c reason.NoAperture = lacks_aperture s c
-breaks_rule s count c reason.BadSize = sets_bad_size c
-breaks_rule s count c reason.BadRepeat = is_bad_repeat c
-breaks_rule s count c reason.TooManyDigits = has_too_many_digits s c
-breaks_rule s count c reason.TooFar = reaches_too_far s c
-breaks_rule s count c reason.TooManyPads = makes_too_many_flashes s count c
-breaks_rule s count c _ = false
+-- The table of the fifteen rules: whether a rule applies to a command, by the state that it meets and the `count` of flashes before it. What may be
+-- defined `again` is not Redefined.
+abbrev pub breaks_rule : Bool → GraphicsState → ℕ → Command → Reason → Bool
+breaks_rule again s count c reason.InRegion = not (is_allowed_in_region c) && s.in_region
+breaks_rule again s count c reason.NotInRegion = ends_region c && not s.in_region
+breaks_rule again s count c reason.NoFormat = needs_unit_and_format c && is_none s.format
+breaks_rule again s count c reason.NoUnit = needs_unit_and_format c && is_none s.unit
+breaks_rule again s count c reason.UnitConflict = differs_in_unit s c
+breaks_rule again s count c reason.FormatConflict = differs_in_format s c
+breaks_rule again s count c reason.Redefined = redefines s c && not again
+breaks_rule again s count c reason.UnknownMacro = uses_unknown_macro s c
+breaks_rule again s count c reason.UnknownAperture = selects_unknown_aperture s c
+breaks_rule again s count c reason.NoAperture = lacks_aperture s c
+breaks_rule again s count c reason.BadSize = sets_bad_size c
+breaks_rule again s count c reason.BadRepeat = is_bad_repeat c
+breaks_rule again s count c reason.TooManyDigits = has_too_many_digits s c
+breaks_rule again s count c reason.TooFar = reaches_too_far s c
+breaks_rule again s count c reason.TooManyPads = makes_too_many_flashes s count c
+breaks_rule again s count c _ = false
 
 -- the rules after the first, InRegion
 abbrev pub later_rules : List Reason
@@ -225,10 +256,15 @@ later_rules =
 abbrev pub all_rules : List Reason
 all_rules = reason.InRegion ∷ later_rules
 
--- the first rule that a command breaks, by the state that it meets and the count of flashes before it
-unfoldable pub first_broken : GraphicsState → ℕ → Command → Option Reason
-first_broken s count c = find (breaks_rule s count c) all_rules
+-- the first rule that a command breaks, by whether it may define again, the state that it meets and the count of flashes before it
+unfoldable pub first_broken : Bool → GraphicsState → ℕ → Command → Option Reason
+first_broken again s count c = find (breaks_rule again s count c) all_rules
 
--- the first rule that a command breaks after the commands before it
-abbrev pub broken_rule : List Command → Command → Option Reason
-broken_rule before c = first_broken (state_after before) (length (flashes_of before)) c
+-- in the wide profile an aperture may be defined again just as before, in the strict one never
+abbrev pub may_define_again : Profile → (ℕ → Option Template) → Command → Bool
+may_define_again Strict templates c = false
+may_define_again Wide templates c = defines_alike templates c
+
+-- the first rule that a command breaks in a profile after the commands before it
+abbrev pub broken_rule_in : Profile → List Command → Command → Option Reason
+broken_rule_in profile before c = first_broken (may_define_again profile (template_numbered before) c) (state_after before) (length (flashes_of before)) c

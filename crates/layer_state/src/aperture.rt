@@ -1,12 +1,13 @@
 //! What a flash needs of an aperture.
 
-ghost use Rattle.std.specs.Prelude.{◌≡◌, false};
+ghost use Rattle.std.specs.Prelude.{◌≡◌, false, IfOk};
 ghost use Rattle.layer_state.specs.Lookback.{size_at, has_hole, aperture_of};
-ghost use Rattle.layer_state.specs.Rules.{has_bad_template, has_negative, lacks_size, is_vertex_count};
+ghost use Rattle.layer_state.specs.Rules.{has_bad_template, has_negative, lacks_size, is_vertex_count, same_standard, same_template};
 
 use crate::size::{Diameter, Side};
 use gerber_text::{Sizes, Standard, Template};
 use grid_units::Dec;
+use std::alloc::AllocError;
 
 /// An aperture as a flash needs it: the sizes of a disc, a rectangle or an obround, and whether it has a hole.
 #[derive(Clone, Copy)]
@@ -113,4 +114,54 @@ fn is_vertex_count(size: Dec) -> bool
 {
     let units = size.units();
     300_000_000 <= units && units <= 1_200_000_000 && units.unsigned_abs() % 100_000_000 == 0
+}
+
+/// Whether templates are equal, however their sizes are written.
+pub(crate) fn same_template(first: &Template, second: &Template) -> bool
+    ensures { result ≡ same_template first.now second.now }
+{
+    match (first, second) {
+        (Template::Standard(which, sizes), Template::Standard(other, others)) => {
+            same_standard(*which, *other) && sizes.as_slice() == others.as_slice()
+        }
+        (Template::Named(name, parameters), Template::Named(other, others)) => {
+            name == other && parameters == others
+        }
+        _ => false,
+    }
+}
+
+fn same_standard(first: Standard, second: Standard) -> bool
+    ensures { result ≡ same_standard first second }
+{
+    matches!(
+        (first, second),
+        (Standard::Circle, Standard::Circle)
+            | (Standard::Rectangle, Standard::Rectangle)
+            | (Standard::Obround, Standard::Obround)
+            | (Standard::Polygon, Standard::Polygon)
+    )
+}
+
+/// A copy of a template.
+pub(crate) fn copy_of_template(template: &Template) -> Result<Template, AllocError>
+    ensures { IfOk result (λ copy. copy ≡ template.now) }
+{
+    match template {
+        Template::Standard(which, sizes) => Ok(Template::Standard(*which, copy_of_sizes(sizes))),
+        Template::Named(name, None) => Ok(Template::Named(name.copy()?, None)),
+        Template::Named(name, Some(parameters)) => {
+            Ok(Template::Named(name.copy()?, Some(parameters.copy()?)))
+        }
+    }
+}
+
+fn copy_of_sizes(sizes: &Sizes) -> Sizes
+    ensures { result ≡ sizes.now }
+{
+    let mut copy = Sizes::new();
+    for size in sizes.as_slice() {
+        copy.push(*size);
+    }
+    copy
 }

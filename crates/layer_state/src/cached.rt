@@ -8,6 +8,7 @@ ghost use Rattle.layer_state.specs.Flashes.{is_flash};
 ghost use Rattle.layer_state.specs.Rules.{first_broken};
 ghost use Rattle.layer_state.specs.KeptFlashes.{KeptParts, flash_count, without_pads};
 ghost use Rattle.layer_state.specs.Inner.IsStateAfter.{IsStateAfter, AppliesOrRefuses, state_of};
+ghost use Rattle.layer_state.specs.Tables.{is_allowed_again};
 
 use crate::cached_values::CachedValues;
 use crate::flash::{Flash, FlashKeep};
@@ -15,7 +16,7 @@ use crate::flashes::MAX_FLASHES;
 use crate::rules::is_flash;
 use crate::state::State;
 use gerber_text::{Action, Command};
-use grid_units::{ItemFail, OptionalInteger};
+use grid_units::{ItemFail, OptionalInteger, Profile};
 use std::alloc::Global;
 
 /// A judge, with what most operations need of its state kept at hand.
@@ -29,11 +30,11 @@ pub(crate) struct CachedState {
 impl CachedState {
     ghost use Rattle.layer_state.specs.Inner.FastOperations.{IsFlashOf};
 
-    /// A judge that has met no command.
-    pub(crate) fn new(alloc: Global, keep: FlashKeep) -> CachedState
-        ensures { IsStateAfter result.state (without_pads keep []) [] }
+    /// A judge by the rules of a profile that has met no command.
+    pub(crate) fn new(alloc: Global, profile: Profile, keep: FlashKeep) -> CachedState
+        ensures { IsStateAfter result.state (without_pads profile keep []) [] }
     {
-        let state = State::new(alloc, keep);
+        let state = State::new(alloc, profile, keep);
         let cached = CachedValues::of(&state);
         CachedState { state, cached }
     }
@@ -95,7 +96,7 @@ impl CachedState {
         j: Option<i64>,
     ) -> bool
         ensures no_flash { result ≡ true → is_flash action ≡ false }
-        ensures legal { result ≡ true → first_broken (state_of self.now.state) (flash_count self.now.state.flashes) (command.Operate action x y i j) ≡ None }
+        ensures legal { result ≡ true → first_broken (is_allowed_again self.now.state.apertures (command.Operate action x y i j)) (state_of self.now.state) (flash_count self.now.state.flashes) (command.Operate action x y i j) ≡ None }
     {
         if !self.cached.ready || is_flash(action) || self.state.lacks_aperture(action) {
             return false;
@@ -119,7 +120,7 @@ impl CachedState {
         i: Option<i64>,
         j: Option<i64>,
     ) -> Option<Flash>
-        ensures { IfSome result (λ flash. IsFlashOf (state_of self.now.state) (flash_count self.now.state.flashes) (command.Operate action x y i j) flash) }
+        ensures { IfSome result (λ flash. IsFlashOf (is_allowed_again self.now.state.apertures (command.Operate action x y i j)) (state_of self.now.state) (flash_count self.now.state.flashes) (command.Operate action x y i j) flash) }
     {
         let state = &self.state;
         if !is_flash(action) || state.current.in_region || state.flashes.count >= MAX_FLASHES {

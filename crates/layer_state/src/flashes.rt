@@ -2,6 +2,7 @@
 
 ghost use Rattle.std.specs.Prelude.{◌≡◌, ◌+◌, ◌<◌, ◌≤◌, [], ◌∷◌, List, length, map, false, OnOk};
 ghost use Rattle.std.specs.List.{list_any};
+ghost use Rattle.grid_units.specs.declared.profile.Profile.{Profile};
 ghost use Rattle.layer_state.specs.Flashes.{copies, pads_of};
 ghost use Rattle.layer_state.specs.declared.flash.Flash.{Flash as TheFlash};
 ghost use Rattle.layer_state.specs.Inner.MovedPads.{flash_moved};
@@ -33,7 +34,7 @@ impl Flashes {
 
     /// No flashes so far.
     pub(crate) fn new(alloc: Global, keep: FlashKeep) -> Self
-        ensures { KeepsFlashes result (without_pads keep []) [] }
+        ensures { (profile : Profile) → KeepsFlashes result (without_pads profile keep []) [] }
     {
         Flashes {
             keep,

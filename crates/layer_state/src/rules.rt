@@ -7,6 +7,7 @@ ghost use Rattle.layer_state.specs.Flashes.{is_flash, copies_at};
 ghost use Rattle.layer_state.specs.Rules.{breaks_rule, later_rules, first_broken, differs_in_unit, differs_in_format, lacks_macro, needs_aperture, flashes_too_far, is_far_coordinate, is_bad_repeat, is_bad_count, max_flashes, is_allowed_in_region};
 ghost use Rattle.layer_state.specs.KeptFlashes.{flash_count};
 ghost use Rattle.layer_state.specs.Inner.IsStateAfter.{state_of};
+ghost use Rattle.layer_state.specs.Tables.{is_allowed_again};
 
 use crate::aperture::has_bad_template;
 use crate::flashes::MAX_FLASHES;
@@ -19,7 +20,7 @@ impl State {
     /// The first rule that a command breaks, if any.
     #[tactic(auto, unfolding(crate::specs::Rules::first_broken))]
     pub(crate) fn broken_rule(&self, command: &Command) -> Option<Reason>
-        ensures { result ≡ first_broken (state_of self.now) (flash_count self.now.flashes) command.now }
+        ensures { result ≡ first_broken (is_allowed_again self.now.apertures command.now) (state_of self.now) (flash_count self.now.flashes) command.now }
     {
         if self.current.in_region && !is_allowed_in_region(command) {
             return Some(Reason::InRegion);
@@ -80,7 +81,7 @@ impl State {
     }
 
     fn finish_rule(&self) -> Option<Reason>
-        ensures { result ≡ find (breaks_rule (state_of self.now) (flash_count self.now.flashes) command.Finish) later_rules }
+        ensures { result ≡ find (breaks_rule (is_allowed_again self.now.apertures command.Finish) (state_of self.now) (flash_count self.now.flashes) command.Finish) later_rules }
     {
         if self.current.format.is_none() {
             Some(Reason::NoFormat)
@@ -92,9 +93,11 @@ impl State {
     }
 
     fn definition_rule(&self, number: u32, template: &Template) -> Option<Reason>
-        ensures { result ≡ find (breaks_rule (state_of self.now) (flash_count self.now.flashes) (command.Define number template.now)) later_rules }
+        ensures { result ≡ find (breaks_rule (is_allowed_again self.now.apertures (command.Define number template.now)) (state_of self.now) (flash_count self.now.flashes) (command.Define number template.now)) later_rules }
     {
-        if self.apertures.get(number).is_some() {
+        if self.apertures.get(number).is_some()
+            && !self.apertures.is_allowed_again(number, template)
+        {
             Some(Reason::Redefined)
         } else if self.lacks_macro(template) {
             Some(Reason::UnknownMacro)
@@ -122,7 +125,7 @@ impl State {
         i: Option<i64>,
         j: Option<i64>,
     ) -> Option<Reason>
-        ensures { result ≡ find (breaks_rule (state_of self.now) (flash_count self.now.flashes) (command.Operate action x y i j)) later_rules }
+        ensures { result ≡ find (breaks_rule (is_allowed_again self.now.apertures (command.Operate action x y i j)) (state_of self.now) (flash_count self.now.flashes) (command.Operate action x y i j)) later_rules }
     {
         let Some(format) = self.current.format else {
             return Some(Reason::NoFormat);

@@ -19,7 +19,7 @@ use crate::flash::{Flash, FlashKeep};
 use crate::function::{function_in_text, function_set};
 use crate::tables::Apertures;
 use gerber_text::{Command, LeadingOperation, PassedOperation, Placed, TextKind};
-use grid_units::{Fail, Fault, ItemFail, Text};
+use grid_units::{Fail, Fault, ItemFail, Profile, Text};
 use pad_shapes::Pad;
 use std::alloc::{AllocError, Global};
 
@@ -43,12 +43,12 @@ pub struct Scanned {
 impl Scan {
     ghost use Rattle.layer_state.specs.Holding.{HasScanned, IsScanResult, HasScannedLegal, IsScanned, is_scanning_region, scanned_flashes, scanned_pads};
 
-    /// A scan that has met no command.
-    pub fn new(alloc: Global, keep: FlashKeep) -> Self
-        ensures { HasScannedLegal result (without_pads keep []) [] }
+    /// A scan that has met no command, and judges by the rules of a profile.
+    pub fn new(alloc: Global, profile: Profile, keep: FlashKeep) -> Self
+        ensures { HasScannedLegal result (without_pads profile keep []) [] }
     {
         Scan {
-            state: CachedState::new(alloc, keep),
+            state: CachedState::new(alloc, profile, keep),
             file_function: None,
         }
     }
@@ -75,7 +75,7 @@ impl Scan {
     /// The fault of the first command that breaks a rule; `Memory` where an allocation failed.
     pub fn scan(&mut self, alloc: Global, entries: &[Placed<Command>]) -> Result<(), Fail>
         ensures ok { (parts : KeptParts) (before : Entries) → HasScannedLegal self.old parts before → OnOk result (HasScannedLegal self.new parts (before ++ entries.now)) }
-        ensures refused { (parts : KeptParts) (before : Entries) → HasScannedLegal self.old parts before → IfErr result (IfFault (IsFirstFault (before ++ entries.now))) }
+        ensures refused { (parts : KeptParts) (before : Entries) → HasScannedLegal self.old parts before → IfErr result (IfFault (IsFirstFault parts.profile (before ++ entries.now))) }
     {
         for entry in entries {
             self.take(alloc, entry)?;
@@ -91,7 +91,7 @@ impl Scan {
     /// The fault of an operation that breaks a rule; `Memory` where an allocation failed.
     pub fn operate(&mut self, passed: &PassedOperation) -> Result<(), Fail>
         ensures ok { (parts : KeptParts) (before : Entries) → HasScannedLegal self.old parts before → OnOk result (HasScannedLegal self.new parts (before ++ passed_entries passed.now)) }
-        ensures refused { (parts : KeptParts) (before : Entries) → HasScannedLegal self.old parts before → IfErr result (IfFault (IsFirstFault (before ++ passed_entries passed.now))) }
+        ensures refused { (parts : KeptParts) (before : Entries) → HasScannedLegal self.old parts before → IfErr result (IfFault (IsFirstFault parts.profile (before ++ passed_entries passed.now))) }
     {
         let LeadingOperation {
             action,
@@ -131,7 +131,7 @@ impl Scan {
     /// The fault of a command that breaks a rule; `Memory` where an allocation failed.
     pub fn take(&mut self, alloc: Global, entry: &Placed<Command>) -> Result<(), Fail>
         ensures ok { (parts : KeptParts) (before : Entries) → HasScannedLegal self.old parts before → OnOk result (HasScannedLegal self.new parts (before ++ entry.now ∷ [])) }
-        ensures refused { (parts : KeptParts) (before : Entries) → HasScannedLegal self.old parts before → IfErr result (IfFault (IsFirstFault (before ++ entry.now ∷ []))) }
+        ensures refused { (parts : KeptParts) (before : Entries) → HasScannedLegal self.old parts before → IfErr result (IfFault (IsFirstFault parts.profile (before ++ entry.now ∷ []))) }
     {
         match self.scan_one(alloc, &entry.what) {
             Ok(()) => Ok(()),

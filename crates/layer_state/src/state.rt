@@ -12,7 +12,7 @@ ghost use Rattle.layer_state.specs.Rules.{first_broken, is_far_pad, is_far_point
 ghost use Rattle.layer_state.specs.KeptFlashes.{Adds, KeptParts, flash_count, keeps_shapes, without_pads};
 ghost use Rattle.layer_state.specs.Inner.IsStateAfter.{IsStateAfter, Applies, AppliesOrRefuses, IfRefused, state_of, after};
 ghost use Rattle.layer_state.specs.Shapes.{inner_shape};
-ghost use Rattle.layer_state.specs.Tables.{pieces_at};
+ghost use Rattle.layer_state.specs.Tables.{is_allowed_again, pieces_at};
 
 use crate::aperture::aperture_of;
 use crate::current::Current;
@@ -22,7 +22,7 @@ use crate::rules::is_flash;
 use crate::shapes::{by_macro, bytes_of, standard_shape, within_limits};
 use crate::tables::{Apertures, Defined, Macros, copy_of};
 use gerber_text::{Command, Pieces, Template};
-use grid_units::ItemFail;
+use grid_units::{ItemFail, Profile};
 use pad_shapes::SharedRounded;
 use std::alloc::{AllocError, Global};
 
@@ -37,14 +37,14 @@ pub(crate) struct State {
 }
 
 impl State {
-    /// A judge that has met no command.
-    pub(crate) fn new(alloc: Global, keep: FlashKeep) -> Self
-        ensures { IsStateAfter result (without_pads keep []) [] }
+    /// A judge by the rules of a profile that has met no command.
+    pub(crate) fn new(alloc: Global, profile: Profile, keep: FlashKeep) -> Self
+        ensures { IsStateAfter result (without_pads profile keep []) [] }
     {
         State {
             alloc,
             current: Current::new(),
-            apertures: Apertures::new(alloc),
+            apertures: Apertures::new(alloc, profile),
             macros: Macros::new(alloc),
             flashes: Flashes::new(alloc, keep),
         }
@@ -65,7 +65,7 @@ impl State {
 
     /// Applies a command that breaks no rule. A flash lies at the point that its command makes the current one.
     fn take(&mut self, command: &Command) -> Result<(), AllocError>
-        requires { first_broken (state_of self.old) (flash_count self.old.flashes) command.now ≡ None }
+        requires { first_broken (is_allowed_again self.old.apertures command.now) (state_of self.old) (flash_count self.old.flashes) command.now ≡ None }
         ensures { OnOk result (Applies self.old command.now self.new) }
     {
         self.current.take(command);
@@ -74,7 +74,8 @@ impl State {
                 let template = template.get();
                 let aperture = aperture_of(template);
                 let shape = self.kept_shape(*number, template)?;
-                self.apertures.insert(*number, Defined { aperture, shape })?;
+                self.apertures
+                    .insert(*number, template, Defined { aperture, shape })?;
             }
             Command::Macro(name, pieces) => {
                 let pieces = self.kept_pieces(pieces.get())?;

@@ -3,10 +3,12 @@
 ghost use Rattle.std.specs.Prelude.{◌≡◌, ◌==◌, ℕ, List, None, Some, nat_eq, OnOk, IfOk, if◌then◌else◌};
 ghost use Rattle.std.specs.Option.{option_copied, option_or};
 ghost use Rattle.std.specs.Cmp.Lexicographic.{pointwise};
+ghost use Rattle.grid_units.specs.declared.profile.Profile.TheVariants.{Wide};
+ghost use Rattle.gerber_commands.specs.declared.command.Command.TheVariants as command;
 
-use crate::aperture::Aperture;
-use gerber_text::Pieces;
-use grid_units::Text;
+use crate::aperture::{Aperture, copy_of_template, same_template};
+use gerber_text::{Pieces, Template};
+use grid_units::{Profile, Text};
 use pad_shapes::SharedRounded;
 use std::alloc::{AllocError, Global};
 use std::collections::BTreeMap;
@@ -18,21 +20,27 @@ pub struct Defined {
     pub shape: Option<SharedRounded>,
 }
 
-/// The apertures by their numbers.
+/// The apertures by their numbers. In the wide profile their templates are kept too, by which it is known whether one is defined again just as before.
 #[derive(Drop)]
 pub struct Apertures {
+    profile: Profile,
     table: BTreeMap<u32, Defined>,
+    templates: BTreeMap<u32, Template>,
 }
 
 impl Apertures {
-    ghost use Rattle.layer_state.specs.Tables.{defined_at};
+    ghost use Rattle.layer_state.specs.Tables.{defined_at, is_allowed_again, profile_of, template_at};
 
-    /// No apertures.
-    pub(crate) fn new(alloc: Global) -> Self
-        ensures { (number : ℕ) → defined_at result number ≡ None }
+    /// No apertures, in this profile.
+    pub(crate) fn new(alloc: Global, profile: Profile) -> Self
+        ensures none { (number : ℕ) → defined_at result number ≡ None }
+        ensures profile { profile_of result ≡ profile }
+        ensures templates { (number : ℕ) → template_at result number ≡ None }
     {
         Apertures {
+            profile,
             table: BTreeMap::new(alloc),
+            templates: BTreeMap::new(alloc),
         }
     }
 
@@ -43,12 +51,38 @@ impl Apertures {
         self.table.get(&number)
     }
 
-    /// Gives a number its aperture.
-    pub(crate) fn insert(&mut self, number: u32, defined: Defined) -> Result<(), AllocError>
-        ensures { OnOk result ((other : ℕ) → defined_at self.new other ≡ option_or (if other == number then Some defined else None) (defined_at self.old other)) }
+    /// Whether an aperture that has a number may be defined again by this template.
+    pub(crate) fn is_allowed_again(&self, number: u32, template: &Template) -> bool
+        ensures { result ≡ is_allowed_again self.now (command.Define number template.now) }
+    {
+        match self.profile {
+            Profile::Strict => false,
+            Profile::Wide => match self.templates.get(&number) {
+                Some(earlier) => same_template(earlier, template),
+                None => false,
+            },
+        }
+    }
+
+    /// Gives a number its aperture, which has this template.
+    pub(crate) fn insert(
+        &mut self,
+        number: u32,
+        template: &Template,
+        defined: Defined,
+    ) -> Result<(), AllocError>
+        ensures defined { OnOk result ((other : ℕ) → defined_at self.new other ≡ option_or (if other == number then Some defined else None) (defined_at self.old other)) }
+        ensures profile { profile_of self.new ≡ profile_of self.old }
+        ensures templates { profile_of self.old ≡ Wide → OnOk result ((other : ℕ) → template_at self.new other ≡ option_or (if other == number then Some template.now else None) (template_at self.old other)) }
     {
         self.table.insert(number, defined)?;
-        Ok(())
+        match self.profile {
+            Profile::Strict => Ok(()),
+            Profile::Wide => {
+                self.templates.insert(number, copy_of_template(template)?)?;
+                Ok(())
+            }
+        }
     }
 }
 

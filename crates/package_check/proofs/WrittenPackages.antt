@@ -98,7 +98,7 @@ module _ (texts : SpelledTextsAreWrittenIn) (layer_pads : LayerPads) (wide_pads 
       let commands = without_places h.0.commands in (
         commands,
         texts Wide bytes h.0.commands h.1.0.spells,
-        subst (AreWidePads commands) (sym (ap (λ v. v.pads) h.2)) (wide_pads commands h.1.0.legal),
+        subst (AreWidePads commands) (sym (ap (λ v. v.pads) h.2)) (wide_pads Wide commands h.1.0.legal),
         sym (ap (λ v. v.is_copper) h.2),
       )
 

@@ -25,6 +25,9 @@ use Rattle.grid_units.specs.HoleWords.{name_of}
 use Rattle.report.specs.Acceptances.{acceptance_at}
 use Rattle.ring_rules.specs.declared.finding.Drilled.{Drilled}
 use Rattle.report.specs.Causes.{flash_of, lack_of, ring_of}
+use Rattle.grid_units.specs.Holes.{GridRules}
+use Rattle.print_json.specs.Certificates.{certificate_value, digest_value, file_digest_value, predicate_value}
+use Rattle.print_json.specs.Packages.{profile_value}
 use Rattle.print_json.specs.declared.refused.InputError.{InputError}
 use Rattle.print_json.specs.declared.refused.InputError.TheVariants as stops
 
@@ -170,6 +173,10 @@ measure_within Wide names board measure =
     let gap = there_within 3 (least_gap_value board.files board.holes) (least_gap_within board.files board.holes) measure.gap in
     omega (arith, meets, named, scales, rows, gap)
 
+profile_within : (profile : Profile) → depth (profile_value profile) ≤ 0
+profile_within Strict = omega arith
+profile_within Wide = omega arith
+
 -- the depth of a refusal
 pub stop_within : (stop : InputError) → depth (input_error_value stop) ≤ max_depth
 stop_within (stops.RefusedManifest place reason) = omega arith
@@ -178,3 +185,17 @@ stop_within stops.ManifestDevice = omega arith
 stop_within (stops.Device index name) = omega arith
 stop_within (stops.RefusedWaivers place reason) = omega arith
 stop_within stops.WaiversDevice = omega arith
+
+digest_within : (file : List ℕ × List ℕ) → depth (file_digest_value file) ≤ 2
+unfolding file_digest_value digest_value
+digest_within file = omega arith
+
+-- the depth of a certificate
+pub certificate_within : (program : List ℕ) (rules : GridRules) (subjects : List (List ℕ × List ℕ)) (manifest : List ℕ × List ℕ) (names : List (List ℕ)) (files : List FileSum) → depth (certificate_value program rules subjects manifest names files) ≤ max_depth
+unfolding certificate_value predicate_value rules_value
+certificate_within program rules subjects manifest names files =
+    let given = each_within file_digest_value 2 digest_within subjects in
+    let by = digest_within manifest in
+    let profile = profile_within rules.profile in
+    let named = files_within rules.profile names files in
+    omega (arith, given, by, profile, named)

@@ -1,3 +1,5 @@
 pub mod Inner
 pub mod Values
 pub mod Packages
+pub mod Certificates
+pub mod ReadCertificates

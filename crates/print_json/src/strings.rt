@@ -20,13 +20,21 @@ fn hex(digit: u8) -> char
     }
 }
 
+/// Writes a byte in two hexadecimal digits of lower case: `1f`.
+pub(crate) fn write_digits<W: fmt::Write>(f: &mut Formatter<W>, byte: u8) -> fmt::Result
+    ensures { DisplaysOnOk W.write_str_gives f.old result (Some (digit_char (byte / 16) ∷ digit_char (byte % 16) ∷ [])) f.new }
+{
+    let (high, low) = (hex(byte / 16), hex(byte % 16));
+    write!(f, "{high}{low}")
+}
+
 /// Writes a byte below 32 by its code: `\u001f`.
 fn write_code<W: fmt::Write>(f: &mut Formatter<W>, byte: u8) -> fmt::Result
     requires { byte < 32 }
     ensures { DisplaysOnOk W.write_str_gives f.old result (Some (92 ∷ 117 ∷ 48 ∷ 48 ∷ digit_char (byte / 16) ∷ digit_char (byte % 16) ∷ [])) f.new }
 {
-    let (high, low) = (hex(byte / 16), hex(byte % 16));
-    write!(f, "\\u00{high}{low}")
+    f.write_str("\\u00")?;
+    write_digits(f, byte)
 }
 
 /// Writes a character of a string, after a backslash or by its code where JSON asks for that.

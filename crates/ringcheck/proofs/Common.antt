@@ -13,11 +13,12 @@ pub use Rattle.package_check.specs.Holding.{HasTaken, HasTakenAll}
 pub use Rattle.package_check.specs.OpenFiles.{HasOpened, HasOpenedCopper}
 pub use Rattle.package_check.specs.Package.{FileView, ReadsBytes, ReadsCopper, ReadsHoles, ReadsUnlessBadSpan, ReturnsReport, Setting, is_bad_span, is_copper}
 pub use Rattle.package_check.specs.declared.PackageFault.{PackageFault}
-pub use Rattle.ringcheck.specs.CheckStatus.{Checks, HasFiles, HasTable, HoldsForPackage, IsPackageRefusal, IsParsedCheckStatus, RefusedAmong, RefusedFile, SaysPackage, bad_file, file_views_among, long_file, refused_file, refused_manifest, setting_in, sources, status_of}
+pub use Rattle.ringcheck.specs.CheckStatus.{Checks, HasFiles, HoldsForPackage, IsPackageRefusal, IsParsedCheckStatus, IsTable, RefusedAmong, RefusedFile, SaysManifest, bad_file, file_views_among, long_file, refused_file, refused_manifest, setting_in, sources, status_of}
 pub use Rattle.ringcheck.specs.DrawStatus.{IsDrawStatus, IsParsedDrawStatus, PrintsPicture}
+pub use Rattle.ringcheck.specs.Inner.Digests.{AreDigestsOf, Hashes, HashesOn}
 pub use Rattle.ringcheck.specs.Inner.Halting.{AfterHalt, AfterNoTable, Halts, HaltsTable, OfFiles, RefusesTable, refusal}
 pub use Rattle.ringcheck.specs.Inner.Jobs.{Holds, SaysJob, given_waivers, job_profile, job_style}
-pub use Rattle.ringcheck.specs.Inner.Loading.{AreFirstOf, CopperGoesOn, EndsAt, GoesOn, HasLoaded, LoadsCopper, LoadsCopperTo, LoadsFile, LoadsKind, OfCheckedCopper, RefusesLong, is_kind_at, is_kind_of, source}
+pub use Rattle.ringcheck.specs.Inner.Loading.{AreFirstOf, CopperGoesOn, EndsAt, GoesOn, HasJudgedHashed, HasLoaded, HasTakenHashed, LoadsCopper, LoadsCopperTo, LoadsFile, LoadsKind, OfCheckedCopper, RefusesLong, is_kind_at, is_kind_of, source}
 pub use Rattle.ringcheck.specs.MeasureStatus.{IsParsedMeasureStatus, PrintsMeasure, measure_page, measure_style}
 pub use Rattle.ringcheck.specs.Outlining.{IsOutlinedStatus}
 pub use Rattle.ringcheck.specs.ParsedWords.{parse_check, parse_draw, parse_measure, parse_report, profile_of, word_bytes}
@@ -31,7 +32,7 @@ pub use Rattle.ringcheck_files.specs.LoaderRelation.{Relation, file_limit, in_fo
 pub use Rattle.ringcheck_files.specs.Outcomes.{HasCause, HasRisen}
 pub use Rattle.ringcheck_files.specs.Writers.{IsSilent, IsSilentStatus, Written, texts}
 pub use Rattle.ringcheck_files.specs.declared.Status.{Status}
-pub use Rattle.std.proofs.lemmas.Bool.{and_left, and_right, both_ways, cases_lt, eqb-true, false≢true, le-leb, le-ltb, lt-ltb, or_cases, or_from}
+pub use Rattle.std.proofs.lemmas.Bool.{and_left, and_right, both_ways, cases_eq, cases_lt, eqb-true, false≢true, le-leb, le-ltb, lt-ltb, or_cases, or_from}
 pub use Rattle.std.proofs.lemmas.List.{flat_map_more, get_or-set_other, get_or-set_same, length-set, length-take-le, nil_from_length, take_all}
 pub use Rattle.std.proofs.lemmas.Option.{IfSome_then, none-some, same_Some, slice_get_read, slice_get_within}
 pub use Rattle.std.proofs.lemmas.Result.{IfOk-weaker, err_from_is_err_and}

@@ -1,13 +1,14 @@
 -- What a status says of a request, of a loader whose names are taken from a folder, and where no folder could be entered.
 use Rattle.ringcheck.proofs.Common.{Bool, true, false, ℕ, List, [], ◌∷◌, Option, Some, None, Result, Ok, Err, inl, inr, refl, GridRules, Reason, Profile, Status, Relation, Written, parse_check, parse_draw, parse_measure, profile_of, Checks, IsParsedCheckStatus, IsDrawStatus, IsParsedDrawStatus, PrintsPicture, IsParsedMeasureStatus, PrintsMeasure, measure_style, IsParsedReportStatus, IsWaivingReportStatus, IsExitOf, IsRequestStatus, word_bytes, ReportFormat}
 use Rattle.command_line.specs.declared.Request.{Request}
-use Rattle.command_line.specs.declared.Request.TheVariants.{Check, Measure, Report, Draw, Show, Rewrite, Manifest, Explain}
+use Rattle.command_line.specs.declared.Request.TheVariants.{Check, Certify, Verify, Measure, Report, Draw, Show, Rewrite, Manifest, Explain}
 use Rattle.ringcheck_files.specs.declared.Status.TheVariants as status
 use Rattle.ringcheck_files.specs.declared.file_jobs.FileJob.{FileJob}
 use Rattle.ringcheck_files.specs.declared.file_jobs.FileJob.TheVariants as file_job
 use Rattle.ringcheck_files.specs.FileStatus.{IsKindStatus, IsParsedFileStatus, parse_kind}
 use Rattle.ringcheck_files.specs.ManifestStatus.{HasAllLoaded, HasLoaded, IsExplainStatus, IsManifestStatus, LoadedView, bytes, folder, long, unread}
 use Rattle.ringcheck_files.specs.declared.rewrite.Kind.{Kind}
+use Rattle.ringcheck.specs.CertificateStatus.{Certifies, IsCertificateStatus, IsParsedCertificateStatus, IsVerified, IsVerifyStatus}
 use Rattle.ringcheck.specs.ManifestStatus.{IsParsedManifestStatus}
 use Rattle.ringcheck.specs.Sentences.{measure_sentence, profile_sentence}
 use Rattle.ringcheck.specs.ShowStatus.{IsParsedShowStatus}
@@ -29,18 +30,34 @@ exit_weaker true P Q to status.Device h = to status.Device h
 
 module _ (later has : List ℕ → List ℕ → Type 0) (to : (n b : List ℕ) → later n b → has n b) (before after : Written) where
   check_along : (name : List ℕ) (parsed : Result GridRules Reason) (sentence : List ℕ) (s : Status) → IsParsedCheckStatus later name parsed sentence before after s → IsParsedCheckStatus has name parsed sentence before after s
-  check_along name (Ok rules) sentence s h = says_along later has to rules.profile name (Checks rules before.0 after.0) style.Line before after s h
+  check_along name (Ok rules) sentence s h = says_along later has to rules.profile name (λ text entries. Checks rules before.0 after.0) style.Line before after s h
   check_along name (Err why) sentence s h = h
 
+  pub certified_along : (name : List ℕ) (rules : GridRules) (given : Option (List ℕ)) (s : Status) → IsCertificateStatus later name rules given before after s → IsCertificateStatus has name rules given before after s
+  certified_along name rules given s h = says_along later has to rules.profile name (Certifies rules given name before.0 after.0) style.Line before after s h
+
+  certify_along : (name : List ℕ) (parsed : Result GridRules Reason) (sentence : List ℕ) (s : Status) → IsParsedCertificateStatus later name parsed sentence before after s → IsParsedCertificateStatus has name parsed sentence before after s
+  certify_along name (Ok rules) sentence s h = certified_along name rules None s h
+  certify_along name (Err why) sentence s h = h
+
+  pub verified_along : (given : List ℕ) (s : Status) → IsVerified later given before after s → IsVerified has given before after s
+  verified_along given s (inl denied) = inl denied
+  verified_along given s (inr (rules, manifest, h)) = inr (rules, manifest, certified_along manifest rules (Some given) s h)
+
+  verify_along : (name : List ℕ) (s : Status) → IsVerifyStatus later name before after s → IsVerifyStatus has name before after s
+  verify_along name s (inl device) = inl device
+  verify_along name s (inr (inl denied)) = inr (inl denied)
+  verify_along name s (inr (inr (given, held, h))) = inr (inr (given, to name given held, verified_along given s h))
+
   measure_along : (name : List ℕ) (parsed : Result MeasureOrder Reason) (sentence : List ℕ) (s : Status) → IsParsedMeasureStatus later name parsed sentence before after s → IsParsedMeasureStatus has name parsed sentence before after s
-  measure_along name (Ok order) sentence s h = says_along later has to order.profile name (PrintsMeasure order before.0 after.0) (measure_style order.format) before after s h
+  measure_along name (Ok order) sentence s h = says_along later has to order.profile name (λ text entries. PrintsMeasure order before.0 after.0) (measure_style order.format) before after s h
   measure_along name (Err why) sentence s h = h
 
   draw_along : (name : List ℕ) (parsed : Result (Profile × Option GridRules) Reason) (sentence : List ℕ) (outline : Option (List ℕ)) (s : Status) → IsParsedDrawStatus later name parsed sentence outline before after s
       → IsParsedDrawStatus has name parsed sentence outline before after s
   draw_along name (Ok (profile, rules)) sentence outline s h =
       outlined_along later has to (λ parts. IsDrawStatus later name profile rules parts before after) (λ parts. IsDrawStatus has name profile rules parts before after)
-      (λ parts. says_along later has to profile name (PrintsPicture rules parts before.0 after.0) style.Line before after) outline before after s h
+      (λ parts. says_along later has to profile name (λ text entries. PrintsPicture rules parts before.0 after.0) style.Line before after) outline before after s h
   draw_along name (Err why) sentence outline s h = h
 
   waiving_along : (name : List ℕ) (rules : GridRules) (limit : Option ℕ) (form : ReportFormat) (waive outline : Option (List ℕ)) (s : Status)
@@ -48,8 +65,8 @@ module _ (later has : List ℕ → List ℕ → Type 0) (to : (n b : List ℕ) �
   waiving_along name rules limit form None outline s h = report_outlined_along later has to name rules limit form None outline before after s h
   waiving_along name rules limit form (Some file) outline s (inl (is, (why, (text, had, refused), printed))) = inl (is, (why, (text, to file text had, refused), printed))
   waiving_along name rules limit form (Some file) outline s (inr (inl is)) = inr (inl is)
-  waiving_along name rules limit form (Some file) outline s (inr (inr (waivers, (text, had, short, reads), h))) =
-      inr (inr (waivers, (text, to file text had, short, reads), report_outlined_along later has to name rules limit form (Some waivers) outline before after s h))
+  waiving_along name rules limit form (Some file) outline s (inr (inr (waivers, (text, (had, short, reads)), h))) =
+      inr (inr (waivers, (text, (to file text had, short, reads)), report_outlined_along later has to name rules limit form (Some waivers) outline before after s h))
 
   report_along : (name : List ℕ) (parsed : Result (GridRules × Option ℕ × ReportFormat) Reason) (below : Bool) (sentence : List ℕ) (waive outline : Option (List ℕ)) (s : Status)
       → IsParsedReportStatus later name parsed below sentence waive outline before after s → IsParsedReportStatus has name parsed below sentence waive outline before after s
@@ -109,7 +126,9 @@ module _ (later has : List ℕ → List ℕ → Type 0) (to : (n b : List ℕ) �
   manifest_along None sentence why failed_before failed_after names s h = h
 
   pub request_along : (request : Request) (failed_before failed_after : ℕ) (s : Status) → IsRequestStatus request later failed_before failed_after before after s → IsRequestStatus request has failed_before failed_after before after s
-  request_along (Check ring gap profile manifest) failed_before failed_after s h = check_along manifest.now (parse_check (word_bytes profile) ring.now gap.now) _ s h
+  request_along (Check options manifest) failed_before failed_after s h = check_along manifest.now (parse_check (word_bytes options.profile) options.ring.now options.gap.now) _ s h
+  request_along (Certify options manifest) failed_before failed_after s h = certify_along manifest.now (parse_check (word_bytes options.profile) options.ring.now options.gap.now) _ s h
+  request_along (Verify certificate) failed_before failed_after s h = verify_along certificate.now s h
   request_along (Measure profile format manifest) failed_before failed_after s h =
       measure_along manifest.now (parse_measure (word_bytes profile) (word_bytes format)) (measure_sentence (word_bytes profile) (word_bytes format)) s h
   request_along (Report options manifest) failed_before failed_after s h = exit_weaker options.exit_zero _ _ (report_along manifest.now _ _ _ _ _) s h
@@ -126,6 +145,10 @@ module _ (has : Relation) (before after : Written) where
   check_device : (name : List ℕ) (parsed : Result GridRules Reason) (sentence : List ℕ) → IsParsedCheckStatus has name parsed sentence before after status.Device
   check_device name (Ok rules) sentence = tt
   check_device name (Err why) sentence = inr refl
+
+  certify_device : (name : List ℕ) (parsed : Result GridRules Reason) (sentence : List ℕ) → IsParsedCertificateStatus has name parsed sentence before after status.Device
+  certify_device name (Ok rules) sentence = tt
+  certify_device name (Err why) sentence = inr refl
 
   measure_device : (name : List ℕ) (parsed : Result MeasureOrder Reason) (sentence : List ℕ) → IsParsedMeasureStatus has name parsed sentence before after status.Device
   measure_device name (Ok order) sentence = tt
@@ -163,7 +186,9 @@ module _ (has : Relation) (before after : Written) where
   explain_device None = tt
 
   pub request_device : (request : Request) (failed_before failed_after : ℕ) → IsRequestStatus request has failed_before failed_after before after status.Device
-  request_device (Check ring gap profile manifest) failed_before failed_after = check_device manifest.now (parse_check (word_bytes profile) ring.now gap.now) _
+  request_device (Check options manifest) failed_before failed_after = check_device manifest.now (parse_check (word_bytes options.profile) options.ring.now options.gap.now) _
+  request_device (Certify options manifest) failed_before failed_after = certify_device manifest.now (parse_check (word_bytes options.profile) options.ring.now options.gap.now) _
+  request_device (Verify certificate) failed_before failed_after = inl refl
   request_device (Measure profile format manifest) failed_before failed_after = measure_device manifest.now (parse_measure (word_bytes profile) (word_bytes format)) _
   request_device (Report options manifest) failed_before failed_after = exit_device options.exit_zero _ (report_device manifest.now _ _ _ _ _)
   request_device (Draw options manifest) failed_before failed_after = draw_device manifest.now (parse_draw (word_bytes options.profile) (word_bytes options.ring) (word_bytes options.gap)) _ (word_bytes options.outline)

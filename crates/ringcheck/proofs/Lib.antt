@@ -1,3 +1,4 @@
+pub mod CertifiedFiles
 pub mod Common
 pub mod Folders
 pub mod LoadSteps

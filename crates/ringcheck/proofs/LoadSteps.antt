@@ -1,6 +1,7 @@
 -- The files of a package, loaded one by one.
 use Rattle.std.specs.declared.alloc.AllocError.{AllocError}
-use Rattle.ringcheck.proofs.Common.{◌≡◌, Err, Ok, OnOk, Result, ℕ, suc, List, [], ◌∷◌, length, map, arith, refl, ap, Entry, AllByRecursion, FileView, Setting, HasFiles, file_views_among}
+use Rattle.ringcheck.specs.declared.digests.FileHasher.{FileHasher}
+use Rattle.ringcheck.proofs.Common.{◌≡◌, ◌++◌, Bool, append-nil, append_assoc, subst, sym, Hashes, HashesOn, Err, Ok, OnOk, Result, ℕ, suc, List, [], ◌∷◌, length, map, arith, refl, ap, Entry, AllByRecursion, FileView, Setting, HasFiles, file_views_among}
 
 pub same_length : (has : List ℕ → List ℕ → Type 0) (entries : List Entry) (files : List (List ℕ)) → HasFiles has entries files → length entries ≡ length files
 same_length has [] [] h = refl
@@ -31,3 +32,11 @@ read_in n (e ∷ es) (f ∷ fs) = (refl, read_in n es fs)
 pub on_ok : (r : Result (Unit {0}) AllocError) (P : Type 0) → P → OnOk r P
 on_ok (Ok u) P p = p
 on_ok (Err e) P p = tt
+
+-- a hasher has taken one more piece
+pub hashes_more : (start was now : FileHasher) (text piece : List ℕ) → HashesOn start was text → ((on : Bool) (held : List ℕ) → Hashes on was held → Hashes on now (held ++ piece)) → HashesOn start now (text ++ piece)
+hashes_more start was now text piece so_far more on before h = subst (Hashes on now) (append_assoc before text piece) (more on (before ++ text) (so_far on before h))
+
+-- a hasher that has taken nothing since its start has taken the empty text
+pub hashes_none : (start : FileHasher) → HashesOn start start []
+hashes_none start on before h = subst (Hashes on start) (sym (append-nil before)) h

@@ -1,11 +1,12 @@
 -- Files of a package that were loaded, whatever their order.
-use Rattle.ringcheck.proofs.Common.{◌≡◌, cond, ◌≢◌, ◌<◌, ◌≤◌, ◌↔◌, ◌+◌, ◌||◌, ◌&&◌, eqb, ltb, ℕ, zero, suc, Bool, true, false, not, List, [], ◌∷◌, length, map, take, set, get_or, Option, Some, None, Result, Ok, Err, inl, inr, arith, refl, sym, ap, subst, ◌∙◌, and_left, and_right, both_ways, cases_lt, eqb-true, le-ltb, lt-ltb, or_cases, or_from, option_or, unwrap_or, get_or-set_other, get_or-set_same, length-set, length-take-le, take_all, count_by, none-some, same_Some, slice_get_within, Entry, GridRules, Profile, CheckView, setting_of, HasJudged, HasJudgedAll, drill_files, layer_number, FileView, Setting, is_copper, file_limit, within, HasRisen, HasFiles, RefusedFile, file_views_among, long_file, setting_in, sources, Halts, OfFiles, refusal, AreFirstOf, EndsAt, HasLoaded, LoadsCopper, LoadsCopperTo, LoadsFile, LoadsKind, OfCheckedCopper, RefusesLong, is_kind_at, is_kind_of, source, Refusal, of_archive, Halt}
+use Rattle.ringcheck.proofs.Common.{◌≡◌, cond, ◌≢◌, ◌<◌, ◌≤◌, ◌↔◌, ◌+◌, ◌||◌, ◌&&◌, eqb, ltb, ℕ, zero, suc, Bool, true, false, not, List, [], ◌∷◌, length, map, take, set, get_or, Option, Some, None, Result, Ok, Err, inl, inr, arith, refl, sym, ap, subst, ◌∙◌, and_left, and_right, both_ways, cases_eq, cases_lt, false≢true, eqb-true, le-ltb, lt-ltb, or_cases, or_from, option_or, unwrap_or, get_or-set_other, get_or-set_same, length-set, length-take-le, take_all, count_by, none-some, same_Some, slice_get_within, Entry, GridRules, Profile, CheckView, setting_of, HasJudged, HasJudgedAll, drill_files, layer_number, FileView, Setting, is_copper, file_limit, within, HasRisen, HasFiles, RefusedFile, file_views_among, long_file, setting_in, sources, Halts, OfFiles, refusal, AreFirstOf, EndsAt, HasLoaded, LoadsCopper, LoadsCopperTo, LoadsFile, LoadsKind, OfCheckedCopper, RefusesLong, is_kind_at, is_kind_of, source, Refusal, of_archive, Halt, HasTakenHashed, HasJudgedHashed, AreDigestsOf}
 use Rattle.std.proofs.Common.{slice_get}
 use Rattle.std.proofs.lemmas.List.Sums.{sum_by-cons}
 use Rattle.layer_features.specs.declared.keep.Keep.{Keep}
 use Rattle.package_check.specs.Holding as taking
 use Rattle.package_check.specs.Holding.{HasTaken, HasTakenAll, is_kind, setting_of as reader_setting}
 use Rattle.package_check.specs.declared.package_reader.PackageReader.{PackageReader}
+use Rattle.sha2.specs.Sha256.{sha256}
 use Rattle.package_check.proofs.CheckSteps.{judged_alike, judged_all}
 use Rattle.package_check.proofs.TakeSteps.{all_below, all_taken, none_below, none_more, one_more, or_none, or_together, taken_alike}
 use Rattle.ringcheck.proofs.Outcomes.{risen_since}
@@ -54,6 +55,26 @@ views_drills n (x ∷ es) (f ∷ fs) zero bytes e at copper =
     ∙ sym (λ j. cond (not (is j)) (source n x f ∷ drill_files (file_views_among n es fs)) (drill_files (file_views_among n es fs)))
 views_drills n (x ∷ es) (f ∷ fs) (suc k) bytes e at copper =
     ap (λ (ds : List FileView). cond (not (is_copper x.role)) (source n x f ∷ ds) ds) (views_drills n es fs k bytes e at copper)
+
+-- ---- digests of files
+
+-- the digests of files are those of others that are the same at the indexes that are done
+digests_alike : (digests : List (List ℕ)) (files others : List FileView) (done : ℕ → Bool) → ((i : ℕ) → done i ≡ true → slice_get others i ≡ slice_get files i) → AreDigestsOf digests files done → AreDigestsOf digests others done
+digests_alike digests files others done same are i file is at inside = are i file is (sym (same i is) ∙ at) inside
+
+-- and one more
+digests_more : (digests : List (List ℕ)) (files : List FileView) (done : ℕ → Bool) (k : ℕ) (one : FileView) → slice_get files k ≡ Some one → AreDigestsOf digests files done
+    → AreDigestsOf (set digests k (sha256 one.bytes)) files (λ i. done i || eqb i k)
+digests_more digests files done k one there are i file is at inside = elim (cases_eq i k) [
+  | inl same ↦
+      let here : get_or (set digests k (sha256 one.bytes)) k [] ≡ sha256 one.bytes = get_or-set_same digests k (sha256 one.bytes) [] (omega (arith, room, same)) in
+      ap (λ (j : ℕ). get_or (set digests k (sha256 one.bytes)) j []) same ∙ (here ∙ ap (λ (x : FileView). sha256 x.bytes) (same_Some one file (sym there ∙ (ap (slice_get files) (sym same) ∙ at))))
+  | inr other ↦
+      get_or-set_other digests k i (sha256 one.bytes) [] other ∙ are i file (elim (or_cases (done i) (eqb i k) is) [ inl was ↦ was | inr same ↦ absurd (other (eqb-true i k same)) ]) at room
+]
+  where
+    room : i < length digests
+    room = let size = length-set digests k (sha256 one.bytes) in omega (arith, inside, size)
 
 -- ---- files that were loaded
 
@@ -135,32 +156,46 @@ module _ (has : List ℕ → List ℕ → Type 0) (profile : Profile) (all : Lis
       loaded_same Taken (λ i. done i || (ltb i k && is_kind_at copper all i)) (λ i. done i || (ltb i (k + 1) && is_kind_at copper all i))
       (λ i. ap (λ (t : Bool). done i || t) (none_more (is_kind_at copper all) k (ap (is_kind_of copper) at ∙ kind) i)) h
 
+  -- other bytes of a file that is not done leave those that are as they are
+  done_alike : (files : List (List ℕ)) (p : ℕ → Bool) (k : ℕ) (bytes : List ℕ) → p k ≡ false → (i : ℕ) → p i ≡ true
+      → slice_get (sources profile all (set files k bytes)) i ≡ slice_get (sources profile all files) i
+  done_alike files p k bytes none i d = views_other (setting_in profile all) all files k bytes i (λ same. both_ways (p k) none (subst (λ (j : ℕ). p j ≡ true) same d))
+
   -- a reader has taken the next file
-  pub reader_loaded : (keep : Keep) (copper : Bool) (before after : PackageReader) (done : ℕ → Bool) (k : ℕ) (entry : Entry) → slice_get all k ≡ Some entry → is_kind copper entry.role ≡ true → reader_setting before ≡ setting_in profile all
-      → done k ≡ false → LoadsFile has before after k entry → HasLoaded has profile all (HasTaken before keep) (λ i. done i || (ltb i k && is_kind_at copper all i))
-      → HasLoaded has profile all (HasTaken after keep) (λ i. done i || (ltb i (k + 1) && is_kind_at copper all i))
-  reader_loaded keep copper before after done k entry at kind layers new (bytes, held, takes) h =
+  pub reader_loaded : (keep : Keep) (copper : Bool) (before after : PackageReader) (digests digests_after : List (List ℕ)) (done : ℕ → Bool) (k : ℕ) (entry : Entry) → slice_get all k ≡ Some entry → is_kind copper entry.role ≡ true → reader_setting before ≡ setting_in profile all
+      → done k ≡ false → LoadsFile has before after digests digests_after k entry → HasLoaded has profile all (HasTakenHashed before keep digests) (λ i. done i || (ltb i k && is_kind_at copper all i))
+      → HasLoaded has profile all (HasTakenHashed after keep digests_after) (λ i. done i || (ltb i (k + 1) && is_kind_at copper all i))
+  reader_loaded keep copper before after digests digests_after done k entry at kind layers new (bytes, held, takes, hashed) h =
       let n = setting_in profile all in
-      kind_loaded copper (HasTaken before keep) (HasTaken after keep) done k entry bytes at kind new held
-      (λ files p none size was.
-      taken_alike before keep (sources profile all files) (sources profile all (set files k bytes)) p (views_length n all files size ∙ sym (views_length n all (set files k bytes) (length-set files k bytes ∙ size)))
-      (λ i d. views_other n all files k bytes i (λ same. both_ways (p k) none (subst (λ (j : ℕ). p j ≡ true) same d))) was)
-      (λ files p size there was. takes (sources profile all files) (there ∙ ap (λ (m : Setting). Some (source m entry bytes)) (sym layers)) keep p was) h
+      kind_loaded copper (HasTakenHashed before keep digests) (HasTakenHashed after keep digests_after) done k entry bytes at kind new held
+      (λ files p none size was. (
+        taken_alike before keep (sources profile all files) (sources profile all (set files k bytes)) p (views_length n all files size ∙ sym (views_length n all (set files k bytes) (length-set files k bytes ∙ size)))
+            (done_alike files p k bytes none) was.0,
+        digests_alike digests (sources profile all files) (sources profile all (set files k bytes)) p (done_alike files p k bytes none) was.1,
+      ))
+      (λ files p size there was. (
+        takes (sources profile all files) (there ∙ ap (λ (m : Setting). Some (source m entry bytes)) (sym layers)) keep p was.0,
+        subst (λ (ds : List (List ℕ)). AreDigestsOf ds (sources profile all files) (λ i. p i || eqb i k)) (sym hashed) (digests_more digests (sources profile all files) p k (source n entry bytes) there was.1),
+      )) h
 
   -- a check has taken the next file, which is copper
-  pub copper_loaded : (rules : GridRules) (before after : CheckView) (done : ℕ → Bool) (k layer : ℕ) (entry : Entry) → slice_get all k ≡ Some entry → is_copper entry.role ≡ true → setting_of before ≡ setting_in profile all
-      → done k ≡ false → layer ≡ count_by (λ (e : Entry). is_copper e.role) (take k all) → LoadsCopper has before after k layer entry
-      → HasLoaded has profile all (λ files. HasJudged before files rules) (λ i. done i || (ltb i k && is_kind_at true all i))
-      → HasLoaded has profile all (λ files. HasJudged after files rules) (λ i. done i || (ltb i (k + 1) && is_kind_at true all i))
-  copper_loaded rules before after done k layer entry at copper layers new number (bytes, held, takes) h =
+  pub copper_loaded : (rules : GridRules) (before after : CheckView) (digests digests_after : List (List ℕ)) (done : ℕ → Bool) (k layer : ℕ) (entry : Entry) → slice_get all k ≡ Some entry → is_copper entry.role ≡ true → setting_of before ≡ setting_in profile all
+      → done k ≡ false → layer ≡ count_by (λ (e : Entry). is_copper e.role) (take k all) → LoadsCopper has before after digests digests_after k layer entry
+      → HasLoaded has profile all (HasJudgedHashed before rules digests) (λ i. done i || (ltb i k && is_kind_at true all i))
+      → HasLoaded has profile all (HasJudgedHashed after rules digests_after) (λ i. done i || (ltb i (k + 1) && is_kind_at true all i))
+  copper_loaded rules before after digests digests_after done k layer entry at copper layers new number (bytes, held, takes, hashed) h =
       let n = setting_in profile all in
-      kind_loaded true (λ files. HasJudged before files rules) (λ files. HasJudged after files rules) done k entry bytes at copper new held
-      (λ files p none size was.
-      judged_alike before rules (sources profile all files) (sources profile all (set files k bytes)) p (views_length n all files size ∙ sym (views_length n all (set files k bytes) (length-set files k bytes ∙ size)))
-      (λ i d. views_other n all files k bytes i (λ same. both_ways (p k) none (subst (λ (j : ℕ). p j ≡ true) same d)))
-      (λ i. views_number n all (set files k bytes) (length-set files k bytes ∙ size) i ∙ sym (views_number n all files size i)) (views_drills n all files k bytes entry at copper) was)
-      (λ files p size there was.
-      takes (sources profile all files) (there ∙ ap (λ (m : Setting). Some (source m entry bytes)) (sym layers)) (number ∙ sym (views_number n all files size k)) rules p was) h
+      kind_loaded true (HasJudgedHashed before rules digests) (HasJudgedHashed after rules digests_after) done k entry bytes at copper new held
+      (λ files p none size was. (
+        judged_alike before rules (sources profile all files) (sources profile all (set files k bytes)) p (views_length n all files size ∙ sym (views_length n all (set files k bytes) (length-set files k bytes ∙ size)))
+            (done_alike files p k bytes none)
+            (λ i. views_number n all (set files k bytes) (length-set files k bytes ∙ size) i ∙ sym (views_number n all files size i)) (views_drills n all files k bytes entry at copper) was.0,
+        digests_alike digests (sources profile all files) (sources profile all (set files k bytes)) p (done_alike files p k bytes none) was.1,
+      ))
+      (λ files p size there was. (
+        takes (sources profile all files) (there ∙ ap (λ (m : Setting). Some (source m entry bytes)) (sym layers)) (number ∙ sym (views_number n all files size k)) rules p was.0,
+        subst (λ (ds : List (List ℕ)). AreDigestsOf ds (sources profile all files) (λ i. p i || eqb i k)) (sym hashed) (digests_more digests (sources profile all files) p k (source n entry bytes) there was.1),
+      )) h
 
 -- ---- kinds
 
@@ -204,10 +239,10 @@ views_kind copper n (e ∷ es) (f ∷ fs) same zero = refl
 views_kind copper n (e ∷ es) (f ∷ fs) same (suc i) = views_kind copper n es fs (omega (arith, same)) i
 
 -- a check goes on from a reader that has taken all drill files
-pub checking_loaded : (has : List ℕ → List ℕ → Type 0) (profile : Profile) (all : List Entry) (keep : Keep) (rules : GridRules) (reader : PackageReader) (check : CheckView) (drills : ℕ) → drills ≡ length all
+pub checking_loaded : (has : List ℕ → List ℕ → Type 0) (profile : Profile) (all : List Entry) (keep : Keep) (rules : GridRules) (reader : PackageReader) (check : CheckView) (digests : List (List ℕ)) (drills : ℕ) → drills ≡ length all
     → ((files : List FileView) → HasTaken reader keep files (taking.is_kind_at false files) → HasJudged check files rules (taking.is_kind_at false files))
-    → HasLoaded has profile all (HasTaken reader keep) (λ i. false || (ltb i drills && is_kind_at false all i)) → HasLoaded has profile all (λ files. HasJudged check files rules) (λ i. false || (ltb i drills && is_kind_at false all i))
-checking_loaded has profile all keep rules reader check drills ends stands h =
+    → HasLoaded has profile all (HasTakenHashed reader keep digests) (λ i. false || (ltb i drills && is_kind_at false all i)) → HasLoaded has profile all (HasJudgedHashed check rules digests) (λ i. false || (ltb i drills && is_kind_at false all i))
+checking_loaded has profile all keep rules reader check digests drills ends stands h =
     let files = sources profile all h.files in
     let same = λ (i : ℕ). views_kind false (setting_in profile all) all h.files h.size i ∙ sym (all_below (is_kind_at false all) drills (λ i past. no_entry_past false all i (omega (arith, past, ends))) i) in
     let tests : taking.is_kind_at false files ≡ (λ i. ltb i drills && is_kind_at false all i) = λ j. λ i. same i j in
@@ -215,7 +250,7 @@ checking_loaded has profile all keep rules reader check drills ends stands h =
       files = h.files;
       size = h.size;
       loaded = h.loaded;
-      taken = subst (λ (t : ℕ → Bool). HasJudged check files rules t) tests (stands files (subst (λ (t : ℕ → Bool). HasTaken reader keep files t) (sym tests) h.taken));
+      taken = (subst (λ (t : ℕ → Bool). HasJudged check files rules t) tests (stands files (subst (λ (t : ℕ → Bool). HasTaken reader keep files t) (sym tests) h.taken.0)), h.taken.1);
     }
 
 -- ---- what came of all files
@@ -285,15 +320,19 @@ IsEnd has profile all keep last Risen None = (files : List (List ℕ)) × HasFil
 IsEnd has profile all keep last Risen (Some stop) = Halts (RefusedFile has profile all) Risen stop
 
 -- the drill files were loaded, and then the copper files among those before the first that cannot be
-module _ (has later : List ℕ → List ℕ → Type 0) (same : (n b : List ℕ) → later n b ↔ has n b) (profile : Profile) (all : List Entry) (keep : Keep) (start middle last : PackageReader) (drills copper old between new : ℕ)
-    (layers : reader_setting start ≡ setting_in profile all) (stays : reader_setting middle ≡ reader_setting start) (stands : (files : List FileView) → HasTaken start keep files (λ i. false)) (one : LoadsKind has all start middle false drills)
-    (two : LoadsKind later (take drills all) middle last true copper) (rises : old ≤ between) (rises_on : between ≤ new) (inside : drills ≤ length all) (within_first : copper ≤ length (take drills all)) where
-  both_loaded : HasLoaded has profile all (HasTaken last keep) (done_to all drills copper)
+module _ (has later : List ℕ → List ℕ → Type 0) (same : (n b : List ℕ) → later n b ↔ has n b) (profile : Profile) (all : List Entry) (keep : Keep) (start middle last : PackageReader) (digests digests_middle digests_last : List (List ℕ)) (drills copper old between new : ℕ)
+    (layers : reader_setting start ≡ setting_in profile all) (stays : reader_setting middle ≡ reader_setting start) (stands : (files : List FileView) → HasTaken start keep files (λ i. false)) (one : LoadsKind has all start middle digests digests_middle false drills)
+    (two : LoadsKind later (take drills all) middle last digests_middle digests_last true copper) (rises : old ≤ between) (rises_on : between ≤ new) (inside : drills ≤ length all) (within_first : copper ≤ length (take drills all)) where
+  -- what the reader has taken at last
+  abbrev Last : List FileView → (ℕ → Bool) → Type 0
+  Last = HasTakenHashed last keep digests_last
+
+  both_loaded : HasLoaded has profile all Last (done_to all drills copper)
   both_loaded =
       let done = λ (i : ℕ). false || (ltb i drills && is_kind_at false all i) in
-      let drilled : HasLoaded has profile all (HasTaken middle keep) done = one profile all keep (λ i. false) (λ i e at. at) layers (λ i kind. refl) (none_loaded has profile all (HasTaken start keep) stands) in
-      loaded_along later profile all has (λ n b. (same n b).0) (HasTaken last keep) (done_to all drills copper)
-      (two profile all keep done (first_of drills all) (stays ∙ layers) (λ i kind. and_right (ltb i drills) (is_kind_at false all i) (one_entry_kind all i kind)) (loaded_along has profile all later (λ n b. (same n b).1) (HasTaken middle keep) done drilled))
+      let drilled = one profile all keep (λ i. false) (λ i e at. at) layers (λ i kind. refl) (none_loaded has profile all (HasTakenHashed start keep digests) (λ files. (stands files, λ i file d. absurd (false≢true d)))) in
+      loaded_along later profile all has (λ n b. (same n b).0) Last (done_to all drills copper)
+      (two profile all keep done (first_of drills all) (stays ∙ layers) (λ i kind. and_right (ltb i drills) (is_kind_at false all i) (one_entry_kind all i kind)) (loaded_along has profile all later (λ n b. (same n b).1) (HasTakenHashed middle keep digests_middle) done drilled))
 
   size : length (take drills all) ≡ drills
   size = length-take-le drills all inside
@@ -304,13 +343,13 @@ module _ (has later : List ℕ → List ℕ → Type 0) (same : (n b : List ℕ)
   pub passes_end : (first second : Option Halt) → EndsAt has all (HasRisen old between) drills first → EndsAt later (take drills all) (HasRisen between new) copper second → IsEnd has profile all keep last (HasRisen old new) (option_or second first)
   passes_end first (Some s) before (entry, at, halts) =
       halts_weaker (RefusesLong later copper entry) (RefusedFile has profile all) (HasRisen between new) (HasRisen old new)
-      (λ why long. long_refused has profile all (HasTaken last keep) drills copper below both_loaded later (λ n b. (same n b).0) entry why (first_of drills all copper entry at) long) (risen_since old between new rises) s halts
+      (λ why long. long_refused has profile all Last drills copper below both_loaded later (λ n b. (same n b).0) entry why (first_of drills all copper entry at) long) (risen_since old between new rises) s halts
   passes_end (Some s) None (entry, at, halts) ends =
       let here : drills ≡ copper = sym (ends ∙ size) in
       halts_weaker (RefusesLong has drills entry) (RefusedFile has profile all) (HasRisen old between) (HasRisen old new)
-      (λ why long. long_refused has profile all (HasTaken last keep) drills copper below both_loaded has (λ n b held. held) entry why (subst (λ (k : ℕ). slice_get all k ≡ Some entry) here at)
+      (λ why long. long_refused has profile all Last drills copper below both_loaded has (λ n b held. held) entry why (subst (λ (k : ℕ). slice_get all k ≡ Some entry) here at)
       (subst (λ (k : ℕ). RefusesLong has k entry why) here long)) (risen_by old between new rises rises_on) s halts
-  passes_end None None before ends = all_loaded has profile all (HasTaken last keep) drills copper below both_loaded (HasTakenAll last keep) (all_taken last keep) (omega (arith, before, ends, size))
+  passes_end None None before ends = all_loaded has profile all Last drills copper below both_loaded (HasTakenAll last keep) (λ files p each was. all_taken last keep files p each was.0) (omega (arith, before, ends, size))
 
 -- the first of two halts, where there is the second
 pub or_default : (o : Option Halt) (h : Halt) → option_or o (Some h) ≡ Some (unwrap_or o h)
@@ -318,33 +357,33 @@ or_default None h = refl
 or_default (Some x) h = refl
 
 -- all drill files were loaded, and then the copper files, which a check has taken
-pub check_passes : (has later : List ℕ → List ℕ → Type 0) → ((n b : List ℕ) → later n b ↔ has n b) → (all : List Entry) (keep : Keep) (rules : GridRules) (start middle : PackageReader) (check last : CheckView) (drills copper : ℕ)
+pub check_passes : (has later : List ℕ → List ℕ → Type 0) → ((n b : List ℕ) → later n b ↔ has n b) → (all : List Entry) (keep : Keep) (rules : GridRules) (start middle : PackageReader) (check last : CheckView) (digests digests_middle digests_last : List (List ℕ)) (drills copper : ℕ)
     → drills ≡ length all → reader_setting start ≡ setting_in rules.profile all → reader_setting middle ≡ reader_setting start → check.layers ≡ (reader_setting middle).layers → ((sources : List FileView) → HasTaken start keep sources (λ i. false))
-    → LoadsKind has all start middle false drills → ((files : List FileView) → HasTaken middle keep files (taking.is_kind_at false files) → HasJudged check files rules (taking.is_kind_at false files))
-    → LoadsCopperTo later all check last copper → HasLoaded has rules.profile all (λ files. HasJudged last files rules) (done_to all drills copper)
-check_passes has later same all keep rules start middle check last drills copper ends layers stays counted stands one goes two =
+    → LoadsKind has all start middle digests digests_middle false drills → ((files : List FileView) → HasTaken middle keep files (taking.is_kind_at false files) → HasJudged check files rules (taking.is_kind_at false files))
+    → LoadsCopperTo later all check last digests_middle digests_last copper → HasLoaded has rules.profile all (HasJudgedHashed last rules digests_last) (done_to all drills copper)
+check_passes has later same all keep rules start middle check last digests digests_middle digests_last drills copper ends layers stays counted stands one goes two =
     let done = λ (i : ℕ). false || (ltb i drills && is_kind_at false all i) in
-    let drilled : HasLoaded has rules.profile all (HasTaken middle keep) done = one rules.profile all keep (λ i. false) (λ i e at. at) layers (λ i kind. refl) (none_loaded has rules.profile all (HasTaken start keep) stands) in
-    let checked : HasLoaded has rules.profile all (λ files. HasJudged check files rules) done = checking_loaded has rules.profile all keep rules middle check drills ends goes drilled in
+    let drilled = one rules.profile all keep (λ i. false) (λ i e at. at) layers (λ i kind. refl) (none_loaded has rules.profile all (HasTakenHashed start keep digests) (λ files. (stands files, λ i file d. absurd (false≢true d)))) in
+    let checked : HasLoaded has rules.profile all (HasJudgedHashed check rules digests_middle) done = checking_loaded has rules.profile all keep rules middle check digests_middle drills ends goes drilled in
     let count : check.layers ≡ (setting_in rules.profile all).layers = counted ∙ ap (λ (s : Setting). s.layers) (stays ∙ layers) in
-    let profile : check.rules.profile ≡ rules.profile = ap (λ (r : GridRules). r.profile) checked.taken.same_rules in
+    let profile : check.rules.profile ≡ rules.profile = ap (λ (r : GridRules). r.profile) checked.taken.0.same_rules in
     let read_in : setting_of check ≡ setting_in rules.profile all = λ j. let s : Setting = record { layers = count j; profile = profile j } in s in
-    loaded_along later rules.profile all has (λ n b. (same n b).0) (λ files. HasJudged last files rules) (done_to all drills copper)
+    loaded_along later rules.profile all has (λ n b. (same n b).0) (HasJudgedHashed last rules digests_last) (done_to all drills copper)
     (two rules.profile rules done read_in (λ i kind. and_right (ltb i drills) (is_kind_at false all i) (one_entry_kind all i kind))
-    (loaded_along has rules.profile all later (λ n b. (same n b).1) (λ files. HasJudged check files rules) done checked))
+    (loaded_along has rules.profile all later (λ n b. (same n b).1) (HasJudgedHashed check rules digests_middle) done checked))
 
 -- what came of the copper files is what came of all, where all drill files were loaded before
-pub all_checked : (has later : List ℕ → List ℕ → Type 0) → ((n b : List ℕ) → later n b ↔ has n b) → (all : List Entry) (keep : Keep) (rules : GridRules) (start middle : PackageReader) (check : CheckView) (drills old between new : ℕ) → drills ≡ length all
+pub all_checked : (has later : List ℕ → List ℕ → Type 0) → ((n b : List ℕ) → later n b ↔ has n b) → (all : List Entry) (keep : Keep) (rules : GridRules) (start middle : PackageReader) (check : CheckView) (digests digests_middle digests_last : List (List ℕ)) (drills old between new : ℕ) → drills ≡ length all
     → reader_setting start ≡ setting_in rules.profile all → reader_setting middle ≡ reader_setting start → check.layers ≡ (reader_setting middle).layers → ((sources : List FileView) → HasTaken start keep sources (λ i. false))
-    → LoadsKind has all start middle false drills → ((files : List FileView) → HasTaken middle keep files (taking.is_kind_at false files) → HasJudged check files rules (taking.is_kind_at false files))
-    → old ≤ between → (r : Result CheckView Halt) → OfCheckedCopper later all check (HasRisen between new) r → OfFiles has rules.profile all (HasRisen old new) (λ it files. HasJudgedAll it files rules) r
-all_checked has later same all keep rules start middle check drills old between new ends layers stays counted stands one goes rises (Ok last) two =
-    let Taken = λ (files : List FileView) (done : ℕ → Bool). HasJudged last files rules done in
-    let loaded = check_passes has later same all keep rules start middle check last drills (length all) ends layers stays counted stands one goes two in
-    all_loaded has rules.profile all Taken drills (length all) (omega (arith, ends)) loaded (λ files. HasJudgedAll last files rules) (λ files p. judged_all last files rules p) (omega arith)
-all_checked has later same all keep rules start middle check drills old between new ends layers stays counted stands one goes rises (Err stop) (copper, (entry, at, halts), last, two) =
-    let Taken = λ (files : List FileView) (done : ℕ → Bool). HasJudged last files rules done in
-    let loaded = check_passes has later same all keep rules start middle check last drills copper ends layers stays counted stands one goes two in
+    → LoadsKind has all start middle digests digests_middle false drills → ((files : List FileView) → HasTaken middle keep files (taking.is_kind_at false files) → HasJudged check files rules (taking.is_kind_at false files))
+    → old ≤ between → (r : Result CheckView Halt) → OfCheckedCopper later all check digests_middle digests_last (HasRisen between new) r → OfFiles has rules.profile all (HasRisen old new) (λ it files. HasJudgedAll it files rules × AreDigestsOf digests_last files (λ i. true)) r
+all_checked has later same all keep rules start middle check digests digests_middle digests_last drills old between new ends layers stays counted stands one goes rises (Ok last) two =
+    let loaded = check_passes has later same all keep rules start middle check last digests digests_middle digests_last drills (length all) ends layers stays counted stands one goes two in
+    all_loaded has rules.profile all (HasJudgedHashed last rules digests_last) drills (length all) (omega (arith, ends)) loaded (λ files. HasJudgedAll last files rules × AreDigestsOf digests_last files (λ i. true))
+    (λ files p each was. (judged_all last files rules p each was.0, λ i file d at. was.1 i file (each i (slice_get_within files i file at)) at)) (omega arith)
+all_checked has later same all keep rules start middle check digests digests_middle digests_last drills old between new ends layers stays counted stands one goes rises (Err stop) (copper, (entry, at, halts), last, last_digests, two) =
+    let Taken = HasJudgedHashed last rules last_digests in
+    let loaded = check_passes has later same all keep rules start middle check last digests digests_middle last_digests drills copper ends layers stays counted stands one goes two in
     let inside = slice_get_within all copper entry at in
     halts_weaker (RefusesLong later copper entry) (RefusedFile has rules.profile all) (HasRisen between new) (HasRisen old new)
     (λ why long. long_refused has rules.profile all Taken drills copper (omega (arith, ends, inside)) loaded later (λ n b. (same n b).0) entry why at long) (risen_since old between new rises) stop halts

@@ -1,5 +1,5 @@
 -- What follows for a package from what is said of its manifest and of its files.
-use Rattle.ringcheck.proofs.Common.{◌≡◌, ◌<◌, ◌≤◌, ◌∷◌, [], inl, inr, ℕ, zero, suc, Bool, true, false, List, Some, Result, Ok, Err, IfOk, length, map, take, arith, refl, subst, sym, ◌==◌, slice_get, eqb-true, false≢true, nil_from_length, IfOk-weaker, Profile, Entry, manifest_in, FileView, Status, HasCause, HasRisen, file_limit, within, IsSilent, Written, Halt, AfterHalt, AfterNoTable, Halts, HaltsTable, OfFiles, refusal, Refusal, PackageFault, PrintsRefusal, of_archive, of_role, HasFiles, HasTable, HoldsForPackage, RefusedFile, IsPackageRefusal, RefusedAmong, SaysPackage, bad_file, long_file, refused_file, refused_manifest, setting_in, sources, status_of, None, ReportFormat, IsOutlinedStatus, IsReportStatus, Reports, report_style, GridRules, Option}
+use Rattle.ringcheck.proofs.Common.{◌≡◌, ◌<◌, ◌≤◌, ◌∷◌, [], inl, inr, ℕ, zero, suc, Bool, true, false, List, Some, Result, Ok, Err, IfOk, length, map, take, arith, refl, subst, sym, ◌==◌, slice_get, eqb-true, false≢true, nil_from_length, IfOk-weaker, Profile, Entry, manifest_in, FileView, Status, HasCause, HasRisen, file_limit, within, IsSilent, Written, Halt, AfterHalt, AfterNoTable, Halts, HaltsTable, OfFiles, refusal, Refusal, PackageFault, PrintsRefusal, of_archive, of_role, HasFiles, IsTable, HoldsForPackage, RefusedFile, IsPackageRefusal, RefusedAmong, SaysManifest, bad_file, long_file, refused_file, refused_manifest, setting_in, sources, status_of, None, ReportFormat, IsOutlinedStatus, IsReportStatus, Reports, report_style, GridRules, Option}
 use Rattle.std.specs.Prelude.{◌&&◌}
 use Rattle.grid_units.specs.declared.fault.Fault.{Fault}
 use Rattle.package_check.specs.Package.{IsFirstRefused}
@@ -102,30 +102,30 @@ module _ (later has : List ℕ → List ℕ → Type 0) (to : (n b : List ℕ) �
   file_along profile entries why (bad_file files held refused) = bad_file files (files_along entries files held) refused
 
   module _ (profile : Profile) (name : List ℕ) where
-    pub listed_along : (entries : List Entry) → HasTable (manifest_in profile) later name entries → HasTable (manifest_in profile) has name entries
-    listed_along entries h = (h.0, to name h.0 h.1, h.2, h.3)
+    listed_along : (text : List ℕ) (entries : List Entry) → IsTable (manifest_in profile) later name text entries → IsTable (manifest_in profile) has name text entries
+    listed_along text entries h = (to name text h.0, h.1, h.2)
 
-    pub package_along : (Holds : List FileView → Type 0) → HoldsForPackage later profile name Holds → HoldsForPackage has profile name Holds
-    package_along Holds h = record { entries = h.entries; listed = listed_along h.entries h.listed; files = h.files; loaded = files_along h.entries h.files h.loaded; holds = h.holds }
+    pub package_along : (Holds : List ℕ → List Entry → List FileView → Type 0) → HoldsForPackage later profile name Holds → HoldsForPackage has profile name Holds
+    package_along Holds h = record { entries = h.entries; text = h.text; listed = listed_along h.text h.entries h.listed; files = h.files; loaded = files_along h.entries h.files h.loaded; holds = h.holds }
 
     pub refused_along : (why : Refusal) → IsPackageRefusal later profile name why → IsPackageRefusal has profile name why
     refused_along why (refused_manifest h) = refused_manifest (h.0, to name h.0 h.1, h.2)
-    refused_along why (refused_file entries listed file) = refused_file entries (listed_along entries listed) (file_along profile entries why file)
+    refused_along why (refused_file entries listed file) = refused_file entries (listed.0, listed_along listed.0 entries listed.1) (file_along profile entries why file)
 
-    pub says_along : (Holds : Bool → List FileView → Type 0) (refusal_style : RefusalStyle) (before after : Written) (s : Status) → SaysPackage later profile name Holds refusal_style before after s
-        → SaysPackage has profile name Holds refusal_style before after s
-    says_along Holds refusal_style before after status.Pass h = (package_along (Holds true) h.0, h.1)
-    says_along Holds refusal_style before after status.Findings h = (package_along (Holds false) h.0, h.1)
+    pub says_along : (Holds : List ℕ → List Entry → Bool → List FileView → Type 0) (refusal_style : RefusalStyle) (before after : Written) (s : Status) → SaysManifest later profile name Holds refusal_style before after s
+        → SaysManifest has profile name Holds refusal_style before after s
+    says_along Holds refusal_style before after status.Pass h = (package_along (λ text entries. Holds text entries true) h.0, h.1)
+    says_along Holds refusal_style before after status.Findings h = (package_along (λ text entries. Holds text entries false) h.0, h.1)
     says_along Holds refusal_style before after status.Refused h = record { why = h.why; refused = refused_along h.why h.refused; printed = h.printed }
     says_along Holds refusal_style before after status.Usage h = absurd h
     says_along Holds refusal_style before after status.Device h = tt
 
 -- a command passes on a package, or has findings
-pub worked : (has : List ℕ → List ℕ → Type 0) (profile : Profile) (name : List ℕ) (Holds : Bool → List FileView → Type 0) (refusal_style : RefusalStyle) (before after : Written) (entries : List Entry) (files : List (List ℕ))
-    → HasTable (manifest_in profile) has name entries → HasFiles (within file_limit has) entries files → (passes : Bool) → Holds passes (sources profile entries files) → IsSilent before after
-    → SaysPackage has profile name Holds refusal_style before after (status_of passes)
-worked has profile name Holds refusal_style before after entries files listed loaded true h silent = (record { entries = entries; listed = listed; files = files; loaded = loaded; holds = h }, silent)
-worked has profile name Holds refusal_style before after entries files listed loaded false h silent = (record { entries = entries; listed = listed; files = files; loaded = loaded; holds = h }, silent)
+pub worked : (has : List ℕ → List ℕ → Type 0) (profile : Profile) (name : List ℕ) (Holds : List ℕ → List Entry → Bool → List FileView → Type 0) (refusal_style : RefusalStyle) (before after : Written) (text : List ℕ) (entries : List Entry) (files : List (List ℕ))
+    → IsTable (manifest_in profile) has name text entries → HasFiles (within file_limit has) entries files → (passes : Bool) → Holds text entries passes (sources profile entries files) → IsSilent before after
+    → SaysManifest has profile name Holds refusal_style before after (status_of passes)
+worked has profile name Holds refusal_style before after text entries files listed loaded true h silent = (record { entries = entries; text = text; listed = listed; files = files; loaded = loaded; holds = h }, silent)
+worked has profile name Holds refusal_style before after text entries files listed loaded false h silent = (record { entries = entries; text = text; listed = listed; files = files; loaded = loaded; holds = h }, silent)
 
 -- ---- outlines
 
@@ -161,4 +161,4 @@ pub report_outlined_along : (later has : List ℕ → List ℕ → Type 0) → (
     → IsOutlinedStatus later outline (λ parts. IsReportStatus later name rules limit form waivers parts before after) before after s → IsOutlinedStatus has outline (λ parts. IsReportStatus has name rules limit form waivers parts before after) before after s
 report_outlined_along later has to name rules limit form waivers outline before after =
     outlined_along later has to (λ parts. IsReportStatus later name rules limit form waivers parts before after) (λ parts. IsReportStatus has name rules limit form waivers parts before after)
-    (λ parts. says_along later has to rules.profile name (Reports name rules limit form waivers parts before.0 after.0) (report_style form) before after) outline before after
+    (λ parts. says_along later has to rules.profile name (λ text entries. Reports name rules limit form waivers parts before.0 after.0) (report_style form) before after) outline before after

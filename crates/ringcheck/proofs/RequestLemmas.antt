@@ -1,12 +1,13 @@
 -- What a status says of a request, by the words that it was read from.
 use Rattle.ringcheck.proofs.Common.{ℕ, Bool, List, Option, is_some, option_map, sym, Relation, IsSilent, IsSilentStatus, Written, Status, IsParsedMeasureStatus, parse_check, parse_draw, parse_measure, parse_report, profile_of, IsParsedCheckStatus, IsParsedDrawStatus, IsParsedReportStatus, IsExitOf, IsRequestStatus}
-use Rattle.command_line.specs.ProgramArgs.{IsCheck, IsDraw, IsExplain, IsManifest, IsMeasure, IsReport, IsRewrite, IsShow}
+use Rattle.command_line.specs.ProgramArgs.{IsCertify, IsCheck, IsDraw, IsExplain, IsManifest, IsMeasure, IsReport, IsRewrite, IsShow, IsVerify}
 use Rattle.command_line.specs.declared.Request.{Request}
-use Rattle.command_line.specs.declared.Request.TheVariants.{Check, Measure, Report, Draw, Show, Rewrite, Manifest, Explain}
+use Rattle.command_line.specs.declared.Request.TheVariants.{Check, Certify, Verify, Measure, Report, Draw, Show, Rewrite, Manifest, Explain}
 use Rattle.ringcheck_files.specs.declared.Status.TheVariants as status
 use Rattle.ringcheck_files.specs.declared.file_jobs.FileJob.TheVariants as job
 use Rattle.ringcheck_files.specs.FileStatus.{IsParsedFileStatus, parse_kind}
 use Rattle.ringcheck_files.specs.ManifestStatus.{IsExplainStatus}
+use Rattle.ringcheck.specs.CertificateStatus.{IsParsedCertificateStatus, IsVerifyStatus}
 use Rattle.ringcheck.specs.ManifestStatus.{IsParsedManifestStatus}
 use Rattle.ringcheck.specs.ShowStatus.{IsParsedShowStatus}
 use Rattle.ringcheck.specs.Sentences.{check_sentence, draw_sentence, is_for_people, measure_sentence, profile_sentence, report_sentence}
@@ -14,8 +15,20 @@ use Rattle.ringcheck.specs.Sentences.{check_sentence, draw_sentence, is_for_peop
 -- of a check
 pub check_status : (has : Relation) (r g : List ℕ) (p : Option (List ℕ)) (m : List ℕ) (request : Request) (failed_before failed_after : ℕ) (before after : Written) (s : Status)
     → IsCheck r g p m request → IsRequestStatus request has failed_before failed_after before after s → IsParsedCheckStatus has m (parse_check p r g) (check_sentence p r g) before after s
-check_status has r g p m (Check ring gap profile manifest) failed_before failed_after before after s (er, eg, ep, em) says = rw (sym er, sym eg, sym ep, sym em) says
+check_status has r g p m (Check options manifest) failed_before failed_after before after s ((er, eg, ep), em) says = rw (sym er, sym eg, sym ep, sym em) says
 check_status has r g p m request failed_before failed_after before after s h says = absurd h
+
+-- of a certificate
+pub certify_status : (has : Relation) (r g : List ℕ) (p : Option (List ℕ)) (m : List ℕ) (request : Request) (failed_before failed_after : ℕ) (before after : Written) (s : Status)
+    → IsCertify r g p m request → IsRequestStatus request has failed_before failed_after before after s → IsParsedCertificateStatus has m (parse_check p r g) (check_sentence p r g) before after s
+certify_status has r g p m (Certify options manifest) failed_before failed_after before after s ((er, eg, ep), em) says = rw (sym er, sym eg, sym ep, sym em) says
+certify_status has r g p m request failed_before failed_after before after s h says = absurd h
+
+-- of a certificate that is verified
+pub verify_status : (has : Relation) (c : List ℕ) (request : Request) (failed_before failed_after : ℕ) (before after : Written) (s : Status)
+    → IsVerify c request → IsRequestStatus request has failed_before failed_after before after s → IsVerifyStatus has c before after s
+verify_status has c (Verify certificate) failed_before failed_after before after s is says = rw (sym is) says
+verify_status has c request failed_before failed_after before after s h says = absurd h
 
 -- of a report
 pub report_status : (has : Relation) (z : Bool) (r g : List ℕ) (p n v l o : Option (List ℕ)) (m : List ℕ) (request : Request) (failed_before failed_after : ℕ) (before after : Written) (s : Status)

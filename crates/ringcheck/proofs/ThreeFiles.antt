@@ -29,15 +29,15 @@ usage_never_passes below why sentence before after s (inl u) p = let e = u.0 in 
 usage_never_passes below why sentence before after s (inr d) p = cc
 
 -- a package whose manifest is the first file
-held : (m l d : List ℕ) (profile : Profile) (Holds : List FileView → Type 0) → HoldsForPackage (has_three_files m l d) profile (codes "m.csv") Holds
-    → (entries : List Entry) × (manifest_in profile m ≡ Ok entries) × (files : List (List ℕ)) × HasFiles (has_three_files m l d) entries files × Holds (sources profile entries files)
+held : (m l d : List ℕ) (profile : Profile) (Holds : List ℕ → List Entry → List FileView → Type 0) → HoldsForPackage (has_three_files m l d) profile (codes "m.csv") Holds
+    → (entries : List Entry) × (manifest_in profile m ≡ Ok entries) × (files : List (List ℕ)) × HasFiles (has_three_files m l d) entries files × Holds m entries (sources profile entries files)
 held m l d profile Holds h =
-    let listed = h.listed in (
+    let is = first_held m l d h.text h.listed.0 in (
       h.entries,
-      subst (λ (t : List ℕ). manifest_in profile t ≡ Ok h.entries) (first_held m l d listed.0 listed.1) listed.3,
+      subst (λ (t : List ℕ). manifest_in profile t ≡ Ok h.entries) is h.listed.2,
       h.files,
       has_files_along (within file_limit (has_three_files m l d)) (has_three_files m l d) (λ n b w. w.0) h.entries h.files h.loaded,
-      h.holds,
+      subst (λ (t : List ℕ). Holds t h.entries (sources profile h.entries h.files)) is h.holds,
     )
 
 -- the files that the manifest names are sound

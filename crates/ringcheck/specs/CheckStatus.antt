@@ -50,9 +50,13 @@ HasFiles has (entry ∷ entries) (bytes ∷ rest) = has entry.file bytes × HasF
 abbrev pub manifest_limit : ℕ
 manifest_limit = 1048576
 
--- the loader has under this name a table with just these rows, not above its limit; `parse` reads its text
+-- the loader has under this name a table of this text with just these rows, not above its limit; `parse` reads the text
+abbrev pub IsTable : {A : Type 0} → (List ℕ → Result (List A) Fault) → Relation → List ℕ → List ℕ → List A → Type 0
+IsTable parse has name text rows = has name text × (length text ≤ manifest_limit) × (parse text ≡ Ok rows)
+
+-- the loader has under this name a table with just these rows
 abbrev pub HasTable : {A : Type 0} → (List ℕ → Result (List A) Fault) → Relation → List ℕ → List A → Type 0
-HasTable parse has name rows = (text : List ℕ) × has name text × (length text ≤ manifest_limit) × (parse text ≡ Ok rows)
+HasTable parse has name rows = (text : List ℕ) × IsTable parse has name text rows
 
 -- a record's role and its file name, where both are plain text
 abbrev pub role_and_file : Option CsvRecord → Option (List ℕ × List ℕ)
@@ -91,14 +95,15 @@ RefusesText parse plain name text why =
 abbrev pub RefusedTable : {A : Type 0} → (List ℕ → Result (List A) Fault) → (Fault → Refusal) → Relation → List ℕ → Refusal → Type 0
 RefusedTable parse plain has name why = (text : List ℕ) × has name text × RefusesText parse plain name text why
 
--- a package that the loader has under this name: its manifest, and files of which none is above its limit; `Holds` is true of the files as they are read in
--- this profile
-pub record HoldsForPackage (has : Relation) (profile : Profile) (name : List ℕ) (Holds : List FileView → Type 0) : Type 0 where
+-- a package that the loader has under this name: its manifest, and files of which none is above its limit; `Holds` is true of the manifest's text and
+-- entries, and of the files as they are read in this profile
+pub record HoldsForPackage (has : Relation) (profile : Profile) (name : List ℕ) (Holds : List ℕ → List Entry → List FileView → Type 0) : Type 0 where
   pub entries : List Entry
-  pub listed : HasTable (manifest_in profile) has name entries
+  pub text : List ℕ
+  pub listed : IsTable (manifest_in profile) has name text entries
   pub files : List (List ℕ)
   pub loaded : HasFiles (within file_limit has) entries files
-  pub holds : Holds (sources profile entries files)
+  pub holds : Holds text entries (sources profile entries files)
 
 -- the loader has bytes above the limit for the entry at this index, and bytes within the limit for each entry before it
 pub record LongFile (has : Relation) (entries : List Entry) (index : ℕ) (entry : Entry) : Type 0 where
@@ -134,14 +139,21 @@ pub record PrintsPackageRefusal (has : Relation) (profile : Profile) (name : Lis
   pub refused : IsPackageRefusal has profile name why
   pub printed : PrintsRefusal refusal_style why before after
 
--- what a status says of a command on a package that is read in this profile: where it passes, or has findings, `Holds` says so of the
--- package's files, and nothing was said beside it; a refusal, which is the same under any rules, was printed in this style
+-- what a status says of a command on the manifest and the files of a package that is read in this profile: where it passes, or has findings, `Holds` says so of the
+-- manifest's text and entries and of the files, and nothing was said beside it; a refusal, which is the same under any rules, was printed in this style
+abbrev pub SaysManifest : Relation → Profile → List ℕ → (List ℕ → List Entry → Bool → List FileView → Type 0) → RefusalStyle → Written → Written → Status
+    → Type 0
+SaysManifest has profile name Holds refusal_style before after status.Pass =
+    HoldsForPackage has profile name (λ text entries. Holds text entries true) × IsSilent before after
+SaysManifest has profile name Holds refusal_style before after status.Findings =
+    HoldsForPackage has profile name (λ text entries. Holds text entries false) × IsSilent before after
+SaysManifest has profile name Holds refusal_style before after status.Refused = PrintsPackageRefusal has profile name refusal_style before after
+SaysManifest has profile name Holds refusal_style before after status.Usage = ⊥
+SaysManifest has profile name Holds refusal_style before after status.Device = ⊤
+
+-- what a status says of a command on the files of a package
 abbrev pub SaysPackage : Relation → Profile → List ℕ → (Bool → List FileView → Type 0) → RefusalStyle → Written → Written → Status → Type 0
-SaysPackage has profile name Holds refusal_style before after status.Pass = HoldsForPackage has profile name (Holds true) × IsSilent before after
-SaysPackage has profile name Holds refusal_style before after status.Findings = HoldsForPackage has profile name (Holds false) × IsSilent before after
-SaysPackage has profile name Holds refusal_style before after status.Refused = PrintsPackageRefusal has profile name refusal_style before after
-SaysPackage has profile name Holds refusal_style before after status.Usage = ⊥
-SaysPackage has profile name Holds refusal_style before after status.Device = ⊤
+SaysPackage has profile name Holds = SaysManifest has profile name (λ text entries. Holds)
 
 -- the status of a command on a package that passes, or that has findings
 abbrev pub status_of : Bool → Status

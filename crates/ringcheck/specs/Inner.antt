@@ -1,3 +1,5 @@
+pub mod Certificates
+pub mod Digests
 pub mod Exits
 pub mod Halting
 pub mod Jobs

@@ -1,4 +1,5 @@
 pub mod CheckStatus
+pub mod CertificateStatus
 pub mod DrawStatus
 pub mod Inner
 pub mod ManifestStatus

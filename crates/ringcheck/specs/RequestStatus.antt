@@ -7,7 +7,7 @@ use Rattle.command_line.specs.declared.Refusal.{Refusal}
 use Rattle.command_line.specs.declared.Refusal.TheVariants.{Help, Version, Usage, Memory}
 use Rattle.command_line.specs.declared.CommandLine.{CommandLine}
 use Rattle.command_line.specs.declared.Request.{Request}
-use Rattle.command_line.specs.declared.Request.TheVariants.{Check, Measure, Report, Draw, Show, Rewrite, Manifest, Explain}
+use Rattle.command_line.specs.declared.Request.TheVariants.{Check, Certify, Verify, Measure, Report, Draw, Show, Rewrite, Manifest, Explain}
 use Rattle.command_line.specs.declared.commands.TheConstants.{VERSION_LINE}
 use Rattle.ringcheck_files.specs.declared.Status.{Status}
 use Rattle.ringcheck_files.specs.declared.Status.TheVariants as status
@@ -19,6 +19,7 @@ use Rattle.ringcheck.specs.MeasureStatus.{IsParsedMeasureStatus}
 use Rattle.ringcheck.specs.ParsedWords.{parse_check, parse_draw, parse_measure, parse_report, profile_of, word_bytes}
 use Rattle.ringcheck_files.specs.FileStatus.{IsParsedFileStatus, parse_kind}
 use Rattle.ringcheck.specs.ReportStatus.{IsParsedReportStatus}
+use Rattle.ringcheck.specs.CertificateStatus.{IsParsedCertificateStatus, IsVerifyStatus}
 use Rattle.ringcheck.specs.CheckStatus.{IsParsedCheckStatus}
 use Rattle.ringcheck.specs.Sentences.{check_sentence, draw_sentence, is_for_people, measure_sentence, profile_sentence, report_sentence}
 use Rattle.ringcheck.specs.ShowStatus.{IsParsedShowStatus}
@@ -34,8 +35,13 @@ IsExitOf true Says s = Says s
 
 -- what a status says of a request, command by command; `failed_before` and `failed_after` count the loader's failures
 abbrev pub IsRequestStatus : Request → Relation → ℕ → ℕ → Written → Written → Status → Type 0
-IsRequestStatus (Check ring gap profile manifest) has failed_before failed_after before after s =
-    IsParsedCheckStatus has manifest.now (parse_check (word_bytes profile) ring.now gap.now) (check_sentence (word_bytes profile) ring.now gap.now) before after s
+IsRequestStatus (Check options manifest) has failed_before failed_after before after s =
+    IsParsedCheckStatus has manifest.now (parse_check (word_bytes options.profile) options.ring.now options.gap.now)
+    (check_sentence (word_bytes options.profile) options.ring.now options.gap.now) before after s
+IsRequestStatus (Certify options manifest) has failed_before failed_after before after s =
+    IsParsedCertificateStatus has manifest.now (parse_check (word_bytes options.profile) options.ring.now options.gap.now)
+    (check_sentence (word_bytes options.profile) options.ring.now options.gap.now) before after s
+IsRequestStatus (Verify certificate) has failed_before failed_after before after s = IsVerifyStatus has certificate.now before after s
 IsRequestStatus (Measure profile format manifest) has failed_before failed_after before after s =
     IsParsedMeasureStatus has manifest.now (parse_measure (word_bytes profile) (word_bytes format)) (measure_sentence (word_bytes profile) (word_bytes format)) before after s
 IsRequestStatus (Report options manifest) has failed_before failed_after before after s =

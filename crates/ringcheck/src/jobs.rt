@@ -27,6 +27,8 @@ pub(crate) struct Order {
 pub(crate) enum Job {
     /// It is checked under these rules.
     Check(Rules),
+    /// It is checked under these rules, and its certificate is printed, or compared with this text, if there is one.
+    Certify(Rules, Option<Vec<u8>>),
     /// It is measured, and the measure is printed.
     Measure(MeasureOrder),
     /// A report on its findings is printed.
@@ -62,7 +64,7 @@ impl Job {
         ensures { result ≡ job_profile self.now }
     {
         match self {
-            Job::Check(rules) => rules.profile(),
+            Job::Check(rules) | Job::Certify(rules, _) => rules.profile(),
             Job::Measure(order) => order.profile,
             Job::Report(options) => options.rules.profile(),
             Job::Draw(profile, _) => *profile,
@@ -74,7 +76,7 @@ impl Job {
         ensures { result ≡ job_style self.now }
     {
         match self {
-            Job::Check(_) | Job::Draw(..) => RefusalStyle::Line,
+            Job::Check(_) | Job::Certify(..) | Job::Draw(..) => RefusalStyle::Line,
             Job::Measure(order) => match order.format {
                 MeasureFormat::Text => RefusalStyle::Page,
                 MeasureFormat::Json => RefusalStyle::Json,

@@ -1,7 +1,9 @@
 //! The program: packages, layers and drill files from a loader, and what is printed of them to a writer.
 #![tactic(auto)]
 
+mod certificates;
 mod checks;
+mod digests;
 mod jobs;
 mod load_package;
 mod measures;

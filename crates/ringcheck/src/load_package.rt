@@ -9,9 +9,10 @@ ghost use Rattle.package_check.specs.Holding.{is_kind, setting_of};
 ghost use Rattle.package_check.specs.Package.{is_copper};
 ghost use Rattle.ringcheck_files.specs.Outcomes.{HasRisen};
 ghost use Rattle.ringcheck.specs.Inner.Halting.{IsOfPath, OfFiles, OfRead, OfTable};
-ghost use Rattle.ringcheck.specs.Inner.Loading.{EndsAt, IsCheckReport, IsKeptBoard, LoadsKind, OfCheckedCopper, OfCheckedFile, OfHandedFile, OfTakenFile, copper_entries};
+ghost use Rattle.ringcheck.specs.Inner.Loading.{EndsAt, IsHashedReport, IsKeptBoard, LoadsKind, OfCheckedCopper, OfCheckedFile, OfHandedFile, OfTakenFile, copper_entries};
 ghost use Rattle.waivers.specs.Reading.{waivers};
 
+use crate::digests::{Digest, FileHasher};
 use crate::refusals::{Halt, NoTable, Subject, refused_table};
 use crate::{Entry, LoadFault, Loader, PackageFault, PackageReader, Report, Role};
 use grid_units::{Fail, Profile, Rules};
@@ -54,21 +55,28 @@ impl Row for Waiver {
     }
 }
 
-/// The rows of the table under a name, which is this subject of a refusal, where the package is read in this profile.
+/// The rows of a table, and its text.
+#[derive(Drop)]
+pub(crate) struct LoadedTable<R> {
+    pub(crate) rows: Vec<R>,
+    pub(crate) text: Vec<u8>,
+}
+
+/// The table under a name, which is this subject of a refusal, where the package is read in this profile.
 pub(crate) fn load_table<'a, L: Loader, R: Row + Drop>(
     alloc: Global,
     profile: Profile,
     loader: &mut L,
     name: &'a str,
     subject: Subject<'a>,
-) -> Result<Result<Vec<R>, NoTable<'a>>, Failure>
+) -> Result<Result<LoadedTable<R>, NoTable<'a>>, Failure>
     ensures keeps { (n b : List ℕ) → L.has loader.new n b → L.has loader.old n b }
     ensures counts { L.failed loader.old ≤ L.failed loader.new }
     ensures loaded { IfOk result (OfTable (R.rows profile) (L.has loader.old) name.now subject.entry (HasRisen (L.failed loader.old) (L.failed loader.new))) }
 {
     match loader.load(alloc, name, MANIFEST_LIMIT) {
         Ok(text) => match R::read(alloc, profile, text.as_slice()) {
-            Ok(rows) => Ok(Ok(rows)),
+            Ok(rows) => Ok(Ok(LoadedTable { rows, text })),
             Err(Fail::Memory) => Err(Failure::Memory),
             Err(Fail::Refused(fault)) => {
                 let no_table = refused_table(alloc, subject, fault, name, text.as_slice())?;
@@ -128,36 +136,44 @@ fn hand_file<'a, L: Loader, S: Sink>(
 #[derive(Drop)]
 struct FileSink {
     file: OpenFile,
+    hasher: FileHasher,
 }
 
 impl Sink for FileSink {
+    ghost use Rattle.ringcheck.specs.Inner.Digests.{HashesOn};
     ghost use Rattle.ringcheck.specs.Inner.Loading.{GoesOn};
 
-    ghost has_taken = { λ start now text. GoesOn start.file now.file text };
+    ghost has_taken = { λ start now text. GoesOn start.file now.file text × HashesOn start.hasher now.hasher text };
 
     fn take(&mut self, piece: &[u8]) -> Result<(), AllocError> {
+        self.hasher.take(piece);
         self.file.take(piece)
     }
 }
 
-/// Loads the file of an entry at this index, and hands it to the reader as it is loaded; or returns why the file cannot be loaded.
+/// Loads the file of an entry at this index, and hands it to the reader as it is loaded; or returns why the file cannot be loaded. Its digest
+/// goes to its place, if there is one.
 fn take_file<'a, L: Loader>(
     alloc: Global,
     loader: &mut L,
     index: usize,
     entry: &'a Entry,
     reader: &mut PackageReader,
+    digests: &mut [Digest],
 ) -> Result<Option<Halt<'a>>, Failure>
     ensures keeps { (n b : List ℕ) → L.has loader.new n b ↔ L.has loader.old n b }
     ensures counts { L.failed loader.old ≤ L.failed loader.new }
     ensures setting { setting_of reader.new ≡ setting_of reader.old }
-    ensures taken { IfOk result (OfTakenFile (L.has loader.old) reader.old reader.new index entry.now (HasRisen (L.failed loader.old) (L.failed loader.new))) }
+    ensures taken { IfOk result (OfTakenFile (L.has loader.old) reader.old reader.new digests.old digests.new index entry.now (HasRisen (L.failed loader.old) (L.failed loader.new))) }
 {
     let file = reader.begin(index, entry.role, entry.said);
-    let mut sink = FileSink { file };
+    let hasher = FileHasher::of(digests, index);
+    let mut sink = FileSink { file, hasher };
     match hand_file(alloc, loader, index, entry, &mut sink) {
         Ok(None) => {
-            reader.end(sink.file)?;
+            let FileSink { file, hasher } = sink;
+            hasher.put(digests, index);
+            reader.end(file)?;
             Ok(None)
         }
         halted => {
@@ -183,17 +199,18 @@ fn take_kind<'a, L: Loader>(
     entries: &'a [Entry],
     copper: bool,
     reader: &mut PackageReader,
+    digests: &mut [Digest],
 ) -> Result<Pass<'a>, Failure>
     ensures keeps { (n b : List ℕ) → L.has loader.new n b ↔ L.has loader.old n b }
     ensures counts { L.failed loader.old ≤ L.failed loader.new }
     ensures setting { setting_of reader.new ≡ setting_of reader.old }
     ensures within { IfOk result (λ pass. pass.end ≤ length entries.now) }
     ensures ends { IfOk result (λ pass. EndsAt (L.has loader.old) entries.now (HasRisen (L.failed loader.old) (L.failed loader.new)) pass.end pass.halt) }
-    ensures loaded { IfOk result (λ pass. LoadsKind (L.has loader.old) entries.now reader.old reader.new copper pass.end) }
+    ensures loaded { IfOk result (λ pass. LoadsKind (L.has loader.old) entries.now reader.old reader.new digests.old digests.new copper pass.end) }
 {
     for (index, entry) in entries.iter().enumerate() {
         if is_kind(entry.role, copper) {
-            if let Some(halt) = take_file(alloc, loader, index, entry, reader)? {
+            if let Some(halt) = take_file(alloc, loader, index, entry, reader, digests)? {
                 return Ok(Pass {
                     end: index,
                     halt: Some(halt),
@@ -246,8 +263,10 @@ pub(crate) fn load_board<'a, L: Loader>(
     ensures { IfOk result (OfFiles (L.has loader.old) profile entries.now (HasRisen (L.failed loader.old) (L.failed loader.new)) (IsKeptBoard keep)) }
 {
     let mut reader = PackageReader::keeping(alloc, layer_count(entries), profile, keep);
-    let drills = take_kind(alloc, loader, entries, false, &mut reader)?;
-    let copper = take_kind(alloc, loader, &entries[..drills.end], true, &mut reader)?;
+    let digests: &mut [Digest] = &mut [];
+    let drills = take_kind(alloc, loader, entries, false, &mut reader, digests)?;
+    let first = &entries[..drills.end];
+    let copper = take_kind(alloc, loader, first, true, &mut reader, digests)?;
     if let Some(halt) = copper.halt.or(drills.halt) {
         return Ok(Err(halt));
     }
@@ -259,14 +278,17 @@ pub(crate) fn load_board<'a, L: Loader>(
 struct CheckSink {
     check: PackageCheck,
     file: OpenCopper,
+    hasher: FileHasher,
 }
 
 impl Sink for CheckSink {
+    ghost use Rattle.ringcheck.specs.Inner.Digests.{HashesOn};
     ghost use Rattle.ringcheck.specs.Inner.Loading.{CopperGoesOn};
 
-    ghost has_taken = { λ start now text. CopperGoesOn start now text };
+    ghost has_taken = { λ start now text. CopperGoesOn start now text × HashesOn start.hasher now.hasher text };
 
     fn take(&mut self, piece: &[u8]) -> Result<(), AllocError> {
+        self.hasher.take(piece);
         self.check.take_piece(&mut self.file, piece)
     }
 }
@@ -279,16 +301,27 @@ fn check_file<'a, L: Loader>(
     layer: usize,
     entry: &'a Entry,
     mut check: PackageCheck,
+    digests: &mut [Digest],
 ) -> Result<Result<PackageCheck, Halt<'a>>, Failure>
     ensures keeps { (n b : List ℕ) → L.has loader.new n b ↔ L.has loader.old n b }
     ensures counts { L.failed loader.old ≤ L.failed loader.new }
-    ensures taken { is_copper entry.now.role ≡ true → IfOk result (OfCheckedFile (L.has loader.old) check index layer entry.now (HasRisen (L.failed loader.old) (L.failed loader.new))) }
+    ensures taken { is_copper entry.now.role ≡ true → IfOk result (OfCheckedFile (L.has loader.old) check digests.old digests.new index layer entry.now (HasRisen (L.failed loader.old) (L.failed loader.new))) }
 {
     let file = check.begin(index, layer, entry.said);
-    let mut sink = CheckSink { check, file };
+    let hasher = FileHasher::of(digests, index);
+    let mut sink = CheckSink {
+        check,
+        file,
+        hasher,
+    };
     match hand_file(alloc, loader, index, entry, &mut sink) {
         Ok(None) => {
-            let CheckSink { mut check, file } = sink;
+            let CheckSink {
+                mut check,
+                file,
+                hasher,
+            } = sink;
+            hasher.put(digests, index);
             check.end(file)?;
             Ok(Ok(check))
         }
@@ -309,15 +342,16 @@ fn check_copper<'a, L: Loader>(
     loader: &mut L,
     entries: &'a [Entry],
     mut check: PackageCheck,
+    digests: &mut [Digest],
 ) -> Result<Result<PackageCheck, Halt<'a>>, Failure>
     ensures keeps { (n b : List ℕ) → L.has loader.new n b ↔ L.has loader.old n b }
     ensures counts { L.failed loader.old ≤ L.failed loader.new }
-    ensures taken { IfOk result (OfCheckedCopper (L.has loader.old) entries.now check (HasRisen (L.failed loader.old) (L.failed loader.new))) }
+    ensures taken { IfOk result (OfCheckedCopper (L.has loader.old) entries.now check digests.old digests.new (HasRisen (L.failed loader.old) (L.failed loader.new))) }
 {
     let mut layer = 0;
     for (index, entry) in entries.iter().enumerate() {
         if is_copper(entry.role) {
-            match check_file(alloc, loader, index, layer, entry, check)? {
+            match check_file(alloc, loader, index, layer, entry, check, digests)? {
                 Ok(checked) => check = checked,
                 Err(halt) => return Ok(Err(halt)),
             }
@@ -328,24 +362,26 @@ fn check_copper<'a, L: Loader>(
 }
 
 /// The report of a check of the files of the entries in the profile of its rules, the drill files before the copper files. As in
-/// [`load_board`], the first file that cannot be loaded is the answer.
+/// [`load_board`], the first file that cannot be loaded is the answer. The digest of each file goes to its place, where there are places.
 pub(crate) fn check_files<'a, L: Loader>(
     alloc: Global,
     rules: Rules,
     loader: &mut L,
     entries: &'a [Entry],
+    digests: &mut [Digest],
 ) -> Result<Result<Report, Halt<'a>>, Failure>
-    ensures { IfOk result (OfFiles (L.has loader.old) rules.profile entries.now (HasRisen (L.failed loader.old) (L.failed loader.new)) (IsCheckReport rules)) }
+    ensures { IfOk result (OfFiles (L.has loader.old) rules.profile entries.now (HasRisen (L.failed loader.old) (L.failed loader.new)) (IsHashedReport rules digests.new)) }
 {
     let mut reader = PackageReader::new(alloc, layer_count(entries), rules.profile());
-    let drills = take_kind(alloc, loader, entries, false, &mut reader)?;
+    let drills = take_kind(alloc, loader, entries, false, &mut reader, digests)?;
     if let Some(halt) = drills.halt {
-        let before = take_kind(alloc, loader, &entries[..drills.end], true, &mut reader);
+        let first = &entries[..drills.end];
+        let before = take_kind(alloc, loader, first, true, &mut reader, digests);
         drop(reader);
         return Ok(Err(before?.halt.unwrap_or(halt)));
     }
     let check = reader.checking(rules)?;
-    match check_copper(alloc, loader, entries, check)? {
+    match check_copper(alloc, loader, entries, check, digests)? {
         Ok(check) => read_of(entries, check.finish()),
         Err(halt) => Ok(Err(halt)),
     }

@@ -1,15 +1,18 @@
 //! The commands on the package of a manifest: each does a job on it, or prints why it cannot be done.
 
-ghost use Rattle.std.specs.Prelude.{◌≡◌, IfErr, IfOk, is_some, map};
+ghost use Rattle.std.specs.Prelude.{◌≡◌, IfErr, IfOk, false, is_some, map, option_map};
+ghost use Rattle.sha2.specs.Sha256.{sha256};
+ghost use Rattle.ringcheck_files.specs.Words.{IsExplainedUsage};
 ghost use Rattle.ringcheck_files.specs.Outcomes.{HasCause, HasRisen};
 ghost use Rattle.ringcheck.specs.DrawStatus.{IsParsedDrawStatus};
 ghost use Rattle.ringcheck.specs.Inner.Halting.{OfFiles};
-ghost use Rattle.ringcheck.specs.Inner.Jobs.{Holds, SaysJob, job_profile};
+ghost use Rattle.ringcheck.specs.Inner.Jobs.{Holds, SaysJob, given_text, job_profile};
 ghost use Rattle.ringcheck.specs.MeasureStatus.{IsParsedMeasureStatus};
 ghost use Rattle.ringcheck.specs.ParsedWords as named;
 ghost use Rattle.ringcheck.specs.Outlining.{IsOutlinedStatus};
 ghost use Rattle.ringcheck.specs.ReportStatus.{IsParsedReportStatus};
 ghost use Rattle.ringcheck.specs.ParsedWords.{word_bytes};
+ghost use Rattle.ringcheck.specs.CertificateStatus.{Certifies, IsParsedCertificateStatus};
 ghost use Rattle.ringcheck.specs.CheckStatus.{IsParsedCheckStatus, status_of};
 ghost use Rattle.ringcheck.specs.Sentences.{check_sentence, draw_sentence, is_for_people, measure_sentence, report_sentence};
 ghost use Rattle.ringcheck_files.specs.Writers.{texts};
@@ -20,14 +23,38 @@ use crate::outlines::{load_outline, print_no_outline};
 use crate::parsed_words::{parse_check, parse_draw, parse_measure, parse_report};
 use crate::refusals::{Halt, Subject, print_halt, print_no_table};
 use crate::sentences::{NoMeasure, NoPicture, NoReport, is_for_people, refuse};
-use crate::{Entry, Loader, checks, measures, reports};
-use command_line::{PictureWords, ReportWords};
+use crate::{Entry, Loader, certificates, checks, measures, reports};
+use command_line::{CheckWords, PictureWords, ReportWords};
+use grid_units::{Reason, Rules};
 use package_check::Keep;
 use pad_shapes::Drawn;
+use print_json::FileDigest;
 use ringcheck_files::{Failure, Status, Streams};
+use sha2::{Digest, Sha256};
 use std::alloc::{AllocError, Global};
 use std::io::Write;
 use waivers::Waiver;
+
+/// The manifest of a package, under its name.
+#[derive(Clone, Copy)]
+pub(crate) struct Manifest<'a> {
+    pub(crate) name: &'a str,
+    pub(crate) text: &'a [u8],
+    pub(crate) entries: &'a [Entry],
+}
+
+impl<'a> Manifest<'a> {
+    /// Its name, and the digest of its text.
+    pub(crate) fn digest(&self) -> FileDigest<'a>
+        ensures name { result.name.now ≡ self.now.name.now }
+        ensures digest { result.sha256 ≡ sha256 self.now.text.now }
+    {
+        FileDigest {
+            name: self.name,
+            sha256: Sha256::digest(self.text),
+        }
+    }
+}
 
 /// The names of the files of these entries.
 fn names_of<'a>(alloc: Global, entries: &'a [Entry]) -> Result<Vec<&'a str>, AllocError>
@@ -40,27 +67,68 @@ fn names_of<'a>(alloc: Global, entries: &'a [Entry]) -> Result<Vec<&'a str>, All
     Ok(names)
 }
 
-/// Loads the files of these entries of the manifest under a name, does a job on them with an outline of these parts, and returns whether
-/// it passes.
+/// The text of a certificate that is given, if one is.
+fn text_of(given: &Option<Vec<u8>>) -> Option<&[u8]>
+    ensures { option_map (λ text. text.now) result ≡ given_text given.now }
+{
+    match given {
+        Some(text) => Some(text.as_slice()),
+        None => None,
+    }
+}
+
+/// Checks the files of the entries of a manifest under these rules, and makes a certificate of them, or compares it with the one that is
+/// given; returns whether it passes.
+fn certify<'a, L: Loader, W: Write>(
+    alloc: Global,
+    rules: Rules,
+    given: Option<&[u8]>,
+    names: &[&str],
+    manifest: Manifest<'a>,
+    loader: &mut L,
+    out: &mut W,
+) -> Result<Result<bool, Halt<'a>>, Failure>
+    ensures answers { map (λ name. name.now) names.now ≡ map (λ entry. entry.name) manifest.entry.entries.now → IfOk result (OfFiles (L.has loader.old) rules.profile manifest.entry.entries.now (HasRisen (L.failed loader.old) (L.failed loader.new)) (Certifies rules (option_map (λ text. text.now) given.entry) manifest.entry.name.now (W.contents out.old) (W.contents out.new) manifest.entry.text.now manifest.entry.entries.now)) }
+    ensures silent { IfOk result (λ done. IfErr done (λ h. W.contents out.new ≡ W.contents out.old)) }
+{
+    let entries = manifest.entries;
+    let mut digests = vec![in alloc; [0; 32]; entries.len()]?;
+    match check_files(alloc, rules, loader, entries, digests.as_mut_slice())? {
+        Ok(report) => {
+            let digests = digests.as_slice();
+            let passes = certificates::certify(
+                alloc, &report, names, manifest, digests, given, out,
+            )?;
+            Ok(Ok(passes))
+        }
+        Err(halt) => Ok(Err(halt)),
+    }
+}
+
+/// Loads the files of the entries of a manifest, does a job on them with an outline of these parts, and returns whether it passes.
 fn answer<'a, L: Loader, W: Write>(
     alloc: Global,
     job: &Job,
     outline: &[Drawn],
-    name: &str,
-    entries: &'a [Entry],
+    manifest: Manifest<'a>,
     loader: &mut L,
     out: &mut W,
 ) -> Result<Result<bool, Halt<'a>>, Failure>
-    ensures answers { IfOk result (OfFiles (L.has loader.old) (job_profile job.now) entries.now (HasRisen (L.failed loader.old) (L.failed loader.new)) (Holds job.now outline.now name.now (W.contents out.old) (W.contents out.new))) }
+    ensures answers { IfOk result (OfFiles (L.has loader.old) (job_profile job.now) manifest.entry.entries.now (HasRisen (L.failed loader.old) (L.failed loader.new)) (Holds job.now outline.now manifest.entry.name.now (W.contents out.old) (W.contents out.new) manifest.entry.text.now manifest.entry.entries.now)) }
     ensures silent { IfOk result (λ done. IfErr done (λ h. W.contents out.new ≡ W.contents out.old)) }
 {
+    let entries = manifest.entries;
     let names = names_of(alloc, entries)?;
     let names = names.as_slice();
     match job {
-        Job::Check(rules) => match check_files(alloc, *rules, loader, entries)? {
+        Job::Check(rules) => match check_files(alloc, *rules, loader, entries, &mut [])? {
             Ok(report) => Ok(Ok(checks::check(&report, names, out)?)),
             Err(halt) => Ok(Err(halt)),
         },
+        Job::Certify(rules, given) => {
+            let given = text_of(given);
+            certify(alloc, *rules, given, names, manifest, loader, out)
+        }
         Job::Measure(order) => {
             match load_board(alloc, order.profile, Keep::Pads, loader, entries)? {
                 Ok(board) => Ok(Ok(measures::measure(alloc, &board, names, *order, out)?)),
@@ -70,9 +138,10 @@ fn answer<'a, L: Loader, W: Write>(
         Job::Report(order) => {
             let keep = kept_for(order.format);
             match load_board(alloc, order.rules.profile(), keep, loader, entries)? {
-                Ok(board) => Ok(Ok(reports::report(
-                    alloc, &board, names, name, order, outline, out,
-                )?)),
+                Ok(board) => {
+                    let name = manifest.name;
+                    Ok(Ok(reports::report(alloc, &board, names, name, order, outline, out)?))
+                }
                 Err(halt) => Ok(Err(halt)),
             }
         }
@@ -97,7 +166,7 @@ fn status_of(passes: bool) -> Status
 }
 
 /// Does a job on the package of a manifest, with an outline of these parts.
-fn run_job<L: Loader, W: Write, E: Write>(
+pub(crate) fn run_job<L: Loader, W: Write, E: Write>(
     alloc: Global,
     job: &Job,
     outline: &[Drawn],
@@ -109,12 +178,16 @@ fn run_job<L: Loader, W: Write, E: Write>(
     ensures cause { IfOk result (HasCause (L.failed loader.old) (L.failed loader.new)) }
 {
     let profile = job.profile();
-    let entries = match load_table::<L, Entry>(alloc, profile, loader, name, Subject::Manifest)? {
-        Ok(entries) => entries,
+    let table = match load_table::<L, Entry>(alloc, profile, loader, name, Subject::Manifest)? {
+        Ok(table) => table,
         Err(no_table) => return print_no_table(to, job.style(), &no_table, loader),
     };
-    let listed = entries.as_slice();
-    match answer(alloc, job, outline, name, listed, loader, &mut to.out)? {
+    let manifest = Manifest {
+        name,
+        text: table.text.as_slice(),
+        entries: table.rows.as_slice(),
+    };
+    match answer(alloc, job, outline, manifest, loader, &mut to.out)? {
         Ok(passes) => Ok(status_of(passes)),
         Err(halt) => print_halt(to, job.style(), halt, loader),
     }
@@ -138,25 +211,51 @@ fn run_outlined<L: Loader, W: Write, E: Write>(
     }
 }
 
-/// Checks the package of a manifest under the rules that two words name, in the profile that a word names.
+/// Says why the rules or the profile that words name are refused.
+fn refuse_rules<W: Write, E: Write>(
+    to: &mut Streams<W, E>,
+    reason: Reason,
+    unparsed: &CheckWords,
+) -> Result<Status, Failure>
+    ensures says { IfOk result (IsExplainedUsage false reason (check_sentence (word_bytes unparsed.now.profile) unparsed.now.ring.now unparsed.now.gap.now) (texts W.contents E.contents to.old) (texts W.contents E.contents to.new)) }
+    ensures usage { IfOk result (λ status. status ≡ Status.Usage) }
+{
+    let (ring, gap) = (Some(unparsed.ring), Some(unparsed.gap));
+    let profile = unparsed.profile;
+    refuse(to, false, reason, &NoPicture { profile, ring, gap })
+}
+
+/// Checks the package of a manifest under the rules and in the profile that words name.
 pub(crate) fn check<L: Loader, W: Write, E: Write>(
     alloc: Global,
-    profile: Option<&str>,
-    ring: &str,
-    gap: &str,
+    unparsed: &CheckWords,
     name: &str,
     loader: &mut L,
     to: &mut Streams<W, E>,
 ) -> Result<Status, Failure>
-    ensures says { IfOk result (IsParsedCheckStatus (L.has loader.old) name.now (named.parse_check (word_bytes profile.entry) ring.now gap.now) (check_sentence (word_bytes profile.entry) ring.now gap.now) (texts W.contents E.contents to.old) (texts W.contents E.contents to.new)) }
+    ensures says { IfOk result (IsParsedCheckStatus (L.has loader.old) name.now (named.parse_check (word_bytes unparsed.now.profile) unparsed.now.ring.now unparsed.now.gap.now) (check_sentence (word_bytes unparsed.now.profile) unparsed.now.ring.now unparsed.now.gap.now) (texts W.contents E.contents to.old) (texts W.contents E.contents to.new)) }
     ensures cause { IfOk result (HasCause (L.failed loader.old) (L.failed loader.new)) }
 {
-    match parse_check(profile, ring, gap) {
+    match parse_check(unparsed.profile, unparsed.ring, unparsed.gap) {
         Ok(rules) => run_job(alloc, &Job::Check(rules), &[], name, loader, to),
-        Err(reason) => {
-            let (ring, gap) = (Some(ring), Some(gap));
-            refuse(to, false, reason, &NoPicture { profile, ring, gap })
-        }
+        Err(reason) => refuse_rules(to, reason, unparsed),
+    }
+}
+
+/// Makes a certificate of the package of a manifest, checked under the rules and in the profile that words name.
+pub(crate) fn make_certificate<L: Loader, W: Write, E: Write>(
+    alloc: Global,
+    unparsed: &CheckWords,
+    name: &str,
+    loader: &mut L,
+    to: &mut Streams<W, E>,
+) -> Result<Status, Failure>
+    ensures says { IfOk result (IsParsedCertificateStatus (L.has loader.old) name.now (named.parse_check (word_bytes unparsed.now.profile) unparsed.now.ring.now unparsed.now.gap.now) (check_sentence (word_bytes unparsed.now.profile) unparsed.now.ring.now unparsed.now.gap.now) (texts W.contents E.contents to.old) (texts W.contents E.contents to.new)) }
+    ensures cause { IfOk result (HasCause (L.failed loader.old) (L.failed loader.new)) }
+{
+    match parse_check(unparsed.profile, unparsed.ring, unparsed.gap) {
+        Ok(rules) => run_job(alloc, &Job::Certify(rules, None), &[], name, loader, to),
+        Err(reason) => refuse_rules(to, reason, unparsed),
     }
 }
 
@@ -239,12 +338,12 @@ pub(crate) fn report<L: Loader, W: Write, E: Write>(
             file,
             Subject::Waivers,
         )? {
-            Ok(waivers) => {
+            Ok(table) => {
                 let order = Order {
                     rules,
                     limit,
                     format,
-                    waivers: Some(waivers),
+                    waivers: Some(table.rows),
                 };
                 run_outlined(alloc, &Job::Report(order), outline, name, loader, to)
             }

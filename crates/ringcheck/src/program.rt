@@ -2,7 +2,7 @@
 
 ghost use Rattle.std.specs.Prelude.{◌≡◌, ◌++◌, ◌∷◌, ◌⊎◌, [], map, true, ℕ, Bool, IfOk, IfSome, OnOk, List, Option, Some, None, codes, is_some, option_map};
 ghost use Rattle.std.specs.Io.KnownBytes.{Appends};
-ghost use Rattle.command_line.specs.ProgramArgs.{are_plain_rules, are_plain_words, check_words, draw_words, explain_words, is_plain_if_some, is_plain_word, manifest_words, measure_words, report_words, rewrite_words, show_words};
+ghost use Rattle.command_line.specs.ProgramArgs.{are_plain_rules, are_plain_words, certify_words, check_words, draw_words, explain_words, is_plain_if_some, is_plain_word, manifest_words, measure_words, report_words, rewrite_words, show_words, verify_words};
 ghost use Rattle.ringcheck.specs.Inner.Exits.{exit_of};
 ghost use Rattle.ringcheck.specs.RequestStatus.{IsExitOf, IsLineStatus, IsProgramStatus, IsRequestStatus};
 ghost use Rattle.ringcheck_files.specs.LoaderRelation.{in_folder};
@@ -15,12 +15,14 @@ ghost use Rattle.ringcheck.specs.ParsedWords as named;
 ghost use Rattle.ringcheck.specs.ParsedWords.{word_bytes};
 ghost use Rattle.ringcheck_files.specs.FileStatus.{IsParsedFileStatus, parse_kind};
 ghost use Rattle.ringcheck.specs.ReportStatus.{IsParsedReportStatus};
+ghost use Rattle.ringcheck.specs.CertificateStatus.{IsParsedCertificateStatus, IsVerifyStatus};
 ghost use Rattle.ringcheck.specs.CheckStatus.{IsParsedCheckStatus};
 ghost use Rattle.ringcheck.specs.Sentences.{check_sentence, draw_sentence, is_for_people, measure_sentence, profile_sentence, report_sentence};
 ghost use Rattle.ringcheck_files.specs.Writers.{texts};
 ghost use Rattle.ringcheck.specs.ShowStatus.{IsParsedShowStatus};
 
-use crate::packages::{check, draw, measure, report};
+use crate::certificates::verify;
+use crate::packages::{check, draw, make_certificate, measure, report};
 use crate::tables::{manifest, show};
 use crate::{LoadFault, Loader};
 use command_line::{CommandLine, Refusal, Request, VERSION_LINE, parse};
@@ -51,12 +53,11 @@ fn carry_out<L: Loader, W: Write, E: Write>(
     ensures cause { IfOk result (HasCause (L.failed loader.old) (L.failed loader.new)) }
 {
     match request {
-        Request::Check {
-            ring,
-            gap,
-            profile,
-            manifest,
-        } => check(alloc, *profile, ring, gap, manifest, loader, to),
+        Request::Check { options, manifest } => check(alloc, options, manifest, loader, to),
+        Request::Certify { options, manifest } => {
+            make_certificate(alloc, options, manifest, loader, to)
+        }
+        Request::Verify { certificate } => verify(alloc, certificate, loader, to),
         Request::Report { options, manifest } => {
             let status = report(alloc, options, manifest, loader, to)?;
             Ok(exit_of(options.exit_zero, status))
@@ -165,6 +166,10 @@ pub fn run<L: Loader, W: Write, E: Write>(
 ) -> Status
     ensures check { (r g : List ℕ) (profile folder : Option (List ℕ)) (m : List ℕ) → map (λ w. w.now) words.now ≡ check_words r g profile folder m → is_plain_word r ≡ true → is_plain_word g ≡ true
         → is_plain_if_some profile ≡ true → is_plain_if_some folder ≡ true → is_plain_word m ≡ true → IsParsedCheckStatus (in_folder folder (L.has loader.old)) m (named.parse_check profile r g) (check_sentence profile r g) (texts W.contents E.contents to.old) (texts W.contents E.contents to.new) result }
+    ensures certify { (r g : List ℕ) (profile folder : Option (List ℕ)) (m : List ℕ) → map (λ w. w.now) words.now ≡ certify_words r g profile folder m → is_plain_word r ≡ true → is_plain_word g ≡ true
+        → is_plain_if_some profile ≡ true → is_plain_if_some folder ≡ true → is_plain_word m ≡ true → IsParsedCertificateStatus (in_folder folder (L.has loader.old)) m (named.parse_check profile r g) (check_sentence profile r g) (texts W.contents E.contents to.old) (texts W.contents E.contents to.new) result }
+    ensures verify { (folder : Option (List ℕ)) (c : List ℕ) → map (λ w. w.now) words.now ≡ verify_words folder c → is_plain_if_some folder ≡ true → is_plain_word c ≡ true
+        → IsVerifyStatus (in_folder folder (L.has loader.old)) c (texts W.contents E.contents to.old) (texts W.contents E.contents to.new) result }
     ensures report { (exit_zero : Bool) (r g : List ℕ) (profile limit waive outline format folder : Option (List ℕ)) (m : List ℕ) → map (λ w. w.now) words.now ≡ report_words exit_zero r g profile limit waive outline format folder m → is_plain_word r ≡ true → is_plain_word g ≡ true
         → is_plain_if_some profile ≡ true → is_plain_if_some limit ≡ true → is_plain_if_some waive ≡ true → is_plain_if_some outline ≡ true → is_plain_if_some format ≡ true → is_plain_if_some folder ≡ true → is_plain_word m ≡ true
         → IsExitOf exit_zero (IsParsedReportStatus (in_folder folder (L.has loader.old)) m (named.parse_report profile r g limit waive outline format) (is_for_people format) (report_sentence profile r g limit (is_some outline) format) waive outline (texts W.contents E.contents to.old) (texts W.contents E.contents to.new)) result }

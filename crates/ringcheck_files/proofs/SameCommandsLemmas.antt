@@ -7,7 +7,7 @@ use Rattle.drill_text.specs.Writing as drills
 use Rattle.drill_text.proofs.TextIsSayable as saying
 use Rattle.ringcheck_files.specs.declared.rewrite.Kind.TheVariants as kind
 use Rattle.ringcheck_files.proofs.Typed.{text_typed}
-use Rattle.layer_state.specs.Rules.{broken_rule}
+use Rattle.layer_state.specs.Rules.{broken_rule_in}
 
 -- a rewritten text is the canonical one, and not too long
 short_text : (text written : List ℕ) → cond (ltb text_limit (length text)) (Err (fault 0 0 TooLong)) (Ok text) ≡ Ok written → (text ≡ written) × (length text ≤ text_limit)
@@ -23,7 +23,7 @@ layer_back bytes text a h e =
     let cs = without_places a.commands in
     let short = short_text (lines cs) text e in
     let back = reads_as cs text (sym short.0) (subst (λ (t : List ℕ). length t ≤ text_limit) short.0 short.1) (text_sayable bytes a.commands h.0.spells) in
-    let again : IsLayerTextIn Strict text back.entries = record { spells = reads_spells Strict text back.entries back.reads; legal = subst (IsLegal broken_rule) (sym back.same) h.0.legal } in
+    let again : IsLayerTextIn Strict text back.entries = record { spells = reads_spells Strict text back.entries back.reads; legal = subst (IsLegal (broken_rule_in Strict)) (sym back.same) h.0.legal } in
     (image_of back.entries, (again, refl), sym back.same)
 
 drill_back : (bytes text : List ℕ) (cs : List DrillCommand) → IsDrillText bytes cs → drills.rewritten_text cs ≡ Ok text → IsDrillText text cs

@@ -1,6 +1,6 @@
 //! Prints the table or the canonical text of one file.
 
-ghost use Rattle.std.specs.Prelude.{◌≡◌, IfOk, OnOk, Some, option_map};
+ghost use Rattle.std.specs.Prelude.{◌≡◌, IfOk, OnOk, Some, codes, option_map};
 ghost use Rattle.std.specs.Io.KnownBytes.{Appends};
 ghost use Rattle.grid_units.specs.Results.{Answers};
 ghost use Rattle.ringcheck_files.specs.Outcomes.{HasCause};
@@ -117,6 +117,23 @@ fn say_unread<L: Loader, E: Write>(err: &mut E, loader: &L, name: &str) -> Resul
     Ok(())
 }
 
+/// Prints that the file of a name cannot be read: the line `device`, and beside it why.
+///
+/// # Errors
+///
+/// [`Failure::Writer`] where a writer fails.
+pub fn print_unread<L: Loader, W: Write, E: Write>(
+    to: &mut Streams<W, E>,
+    loader: &L,
+    name: &str,
+) -> Result<Status, Failure>
+    ensures { IfOk result (λ status. (status ≡ Status.Device) × Appends (W.contents to.old.out) (W.contents to.new.out) (codes "device\n") × SaysUnread name.now (E.contents to.old.err) (E.contents to.new.err)) }
+{
+    write!(to.out, "device\n")?;
+    say_unread(&mut to.err, loader, name)?;
+    Ok(Status::Device)
+}
+
 /// Loads a file and prints its table or its canonical text. Beside the line of a file that cannot be read stands why.
 fn print_job<L: Loader, W: Write, E: Write>(
     alloc: Global,
@@ -142,11 +159,7 @@ fn print_job<L: Loader, W: Write, E: Write>(
                 Ok(Status::Refused)
             }
         },
-        Err(LoadFault::Device) => {
-            write!(to.out, "device\n")?;
-            say_unread(&mut to.err, loader, name)?;
-            Ok(Status::Device)
-        }
+        Err(LoadFault::Device) => print_unread(to, loader, name),
         Err(LoadFault::Memory) => Err(Failure::Memory),
         Err(LoadFault::TooLong) => {
             refuse_file(&mut to.out, ABOVE_LIMIT)?;

@@ -25,7 +25,7 @@ mod word_list;
 
 pub use containers::{Container, path_in};
 pub use explanation_pages::explain;
-pub use file_jobs::{FileJob, place_of_names, print};
+pub use file_jobs::{FileJob, place_of_names, print, print_unread};
 pub use loader::{ABOVE_LIMIT, FILE_LIMIT, LoadFault, Loader};
 pub use outcomes::{Failure, Streams, refuse_word};
 pub use proposed_manifest::print_manifest;

@@ -3,14 +3,14 @@ use Rattle.std.proofs.Common.{◌≤◌, length, map, subst, Err, arith}
 use Rattle.std.proofs.lemmas.List.{length-append, length-map}
 use Rattle.clap.specs.Lexer.{usize_max}
 use Rattle.clap.specs.Words.{is_simple, is_simple_and_free, takes}
-use Rattle.command_line.specs.ProgramArgs.{ParsesLine, IsCheck, IsDraw, IsExplain, IsManifest, IsMeasure, IsReport, IsRewrite, IsShow, manifest_words}
+use Rattle.command_line.specs.ProgramArgs.{ParsesLine, IsCertify, IsCheck, IsDraw, IsExplain, IsManifest, IsMeasure, IsReport, IsRewrite, IsShow, IsVerify, manifest_words}
 use Rattle.command_line.proofs.ParseResult.{fault_told, line_is_parsed, refused, version_told}
-use Rattle.command_line.proofs.CommandWords.{check_answer, check_options, draw_answer, draw_options, explain_answer, is_free_command, is_plain_command, measure_answer, measure_options, rewrite_answer, rewrite_options, show_answer, show_options, version_fault, word_options}
+use Rattle.command_line.proofs.CommandWords.{certify_answer, check_answer, draw_answer, draw_options, explain_answer, is_free_command, is_plain_command, measure_answer, measure_options, rewrite_answer, rewrite_options, rules_options, show_answer, show_options, verify_answer, verify_options, version_fault, word_options}
 use Rattle.command_line.proofs.GivenOptions.{first_is, rows_of}
 use Rattle.command_line.proofs.ManifestWords.{manifest_answer, rows_of_manifest}
 use Rattle.command_line.proofs.ReportLine.{report_answer, report_options, rows_of_report, value_is}
 use Rattle.command_line.proofs.NamedCommand.{answer}
-use Rattle.command_line.proofs.Requests.{manifest_folder, on_line, is_check, is_draw, is_explain, is_manifest, is_measure, is_report, is_rewrite, is_show}
+use Rattle.command_line.proofs.Requests.{manifest_folder, on_line, is_certify, is_check, is_draw, is_explain, is_manifest, is_measure, is_report, is_rewrite, is_show, is_verify}
 use Rattle.command_line.proofs.parse.Goals as goal
 
 -- the files fit where the words do
@@ -37,7 +37,10 @@ returns-in-Some c =
     record {
       exact = line_is_parsed _ _ _ line c.in-Ok.ensures faultless parsed.1 c.in-Some.ensures;
       check = λ r g f i m e p q t u s.
-          on_line (codes "check") (rows_of (check_options r g f i m)) i (IsCheck r g f m) line (first_is (codes "in") (check_options r g f i m)) (is_check r g f i m) (asks _ _ e (check_answer r g f i m p q t u s));
+          on_line (codes "check") (rows_of (rules_options r g f i m)) i (IsCheck r g f m) line (first_is (codes "in") (rules_options r g f i m)) (is_check r g f i m) (asks _ _ e (check_answer r g f i m p q t u s));
+      certify = λ r g f i m e p q t u s.
+          on_line (codes "certify") (rows_of (rules_options r g f i m)) i (IsCertify r g f m) line (first_is (codes "in") (rules_options r g f i m)) (is_certify r g f i m) (asks _ _ e (certify_answer r g f i m p q t u s));
+      verify = λ i t e u s. on_line (codes "verify") (rows_of (verify_options i t)) i (IsVerify t) line (first_is (codes "in") (verify_options i t)) (is_verify i t) (asks _ _ e (verify_answer i t u s));
       measure = λ p o i m e q t u s. on_line (codes "measure") (rows_of (measure_options p o i m)) i (IsMeasure p o m) line (first_is (codes "in") (measure_options p o i m)) (is_measure p o i m) (asks _ _ e (measure_answer p o i m q t u s));
       report = λ z r g f n v l o i m e p q y t w x u b s.
           on_line (codes "report") (rows_of_report z (report_options r g f n v l o i m)) i (IsReport z r g f n v l o m) line (value_is z (codes "in") (report_options r g f n v l o i m) refl) (is_report z r g f n v l o i m)
@@ -64,6 +67,8 @@ returns c =
     record {
       exact = exact;
       check = λ r g f i m e p q t u s. rw (memory _ _ e (check_answer r g f i m p q t u s)) tt;
+      certify = λ r g f i m e p q t u s. rw (memory _ _ e (certify_answer r g f i m p q t u s)) tt;
+      verify = λ i t e u s. rw (memory _ _ e (verify_answer i t u s)) tt;
       measure = λ p o i m e q t u s. rw (memory _ _ e (measure_answer p o i m q t u s)) tt;
       report = λ z r g f n v l o i m e p q y t w x u b s. rw (memory _ _ e (report_answer z r g f n v l o i m p q y t w x u b s)) tt;
       draw = λ o f l i m e p y t u s. rw (memory _ _ e (draw_answer o f l i m p y t u s)) tt;

@@ -67,7 +67,7 @@ changes_cached command.RepeatEnd = true
 changes_cached _ = false
 
 -- a command that breaks no rule and makes this one flash, on a layer with room for it
-pub record IsFlashOf (s : GraphicsState) (count : ℕ) (c : Command) (flash : Flash) : Type 0 where
-  pub legal : first_broken s count c ≡ None
+pub record IsFlashOf (again : Bool) (s : GraphicsState) (count : ℕ) (c : Command) (flash : Flash) : Type 0 where
+  pub legal : first_broken again s count c ≡ None
   pub flashes : added_flashes s c ≡ flash ∷ []
   pub few : count < max_flashes

@@ -12,7 +12,8 @@ use Rattle.report.specs.declared.RingCause.{RingCause}
 use Rattle.report.specs.declared.BoardReport.{BoardReport}
 use Rattle.report.specs.declared.Acceptances.{Acceptances}
 use Rattle.print_text.specs.declared.report_text.Particulars.{Particulars}
-use Rattle.print_json.specs.Packages.{fewer_value, file_values, finding_values}
+use Rattle.print_json.specs.Packages.{fewer_value, file_values, finding_values, profile_value}
+use Rattle.print_json.specs.declared.certificate.Certificate.{Certificate}
 use Rattle.print_json.specs.Values.{array_of, cause_word, or_null, least_gap_value, meets_value, picometres, row_value, rules_value, scale_value, whole, acceptance_value, word}
 
 abbrev mutual
@@ -73,3 +74,9 @@ abbrev pub about_rest : Profile → Particulars → List (List ℕ) → List Fil
 about_rest profile about names files report accepted =
     (codes "manifest", word about.manifest.now) ∷ (codes "program", word about.program.now) ∷ (codes "rules", rules_value report.rules)
     ∷ report_rest profile about names files report accepted
+
+-- those of what a check found from the profile on, by its certificate
+abbrev pub certified_rest : Certificate → List (List ℕ × Json)
+certified_rest it =
+    (codes "profile", profile_value it.rules.profile) ∷ (codes "rules", rules_value it.rules)
+    ∷ (codes "files", array_of (file_values it.rules.profile (map (λ name. name.now) it.names.now) it.files.now)) ∷ []

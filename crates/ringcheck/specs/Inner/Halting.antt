@@ -1,6 +1,5 @@
 -- Why nothing is done with a package, and what its printing says.
 use Rattle.std.specs.Prelude.{◌≡◌, ℕ, Bool, false, List, Option, Some, None, Result, Ok, Err, map, ⊤}
-use Rattle.std.specs.Global.{Vec}
 use Rattle.grid_units.specs.declared.fault.Fault.{Fault}
 use Rattle.grid_units.specs.declared.fault.Reason.{Reason}
 use Rattle.grid_units.specs.declared.profile.Profile.{Profile}
@@ -14,6 +13,7 @@ use Rattle.ringcheck_files.specs.Words.{Says}
 use Rattle.ringcheck_files.specs.Writers.{Written}
 use Rattle.ringcheck_files.specs.declared.Status.{Status}
 use Rattle.ringcheck_files.specs.declared.Status.TheVariants as status
+use Rattle.ringcheck.specs.declared.load_package.LoadedTable.{LoadedTable}
 use Rattle.ringcheck.specs.declared.refusals.Halt.{Halt}
 use Rattle.ringcheck.specs.declared.refusals.Halt.TheVariants as halt
 use Rattle.ringcheck.specs.declared.refusals.NoTable.{NoTable}
@@ -27,7 +27,7 @@ use Rattle.ringcheck.specs.declared.refusals.UnreadWords.{UnreadWords}
 use Rattle.std.specs.Io.KnownBytes.{Appends}
 use Rattle.ringcheck.specs.Sentences.{unread_text, unread_words}
 use Rattle.ringcheck.specs.Refusals.{Refusal, PrintsRefusal, beside, of_archive, of_explained, of_file, of_manifest, of_role, of_waivers, role_sentence}
-use Rattle.ringcheck.specs.CheckStatus.{HasFiles, HasTable, RefusedAmong, RefusedFile, RefusedTable, is_of_role, sources}
+use Rattle.ringcheck.specs.CheckStatus.{HasFiles, IsTable, RefusedAmong, RefusedFile, RefusedTable, is_of_role, sources}
 
 -- the refusal of a subject, with its fault
 abbrev pub refusal : Subject → Fault → Refusal
@@ -98,9 +98,9 @@ AfterNoTable style (none.Role why row) before after s = (s ≡ status.Refused) �
 abbrev pub RefusesTable : {A : Type 0} → (List ℕ → Result (List A) Fault) → Relation → List ℕ → Subject → Refusal → Type 0
 RefusesTable parse has name what why = RefusedTable parse (refusal what) has name why
 
--- what came of the table under a name: its rows, or why there are none
-abbrev pub OfTable : {A : Type 0} → (List ℕ → Result (List A) Fault) → Relation → List ℕ → Subject → Type 0 → Result (Vec A) NoTable → Type 0
-OfTable parse has name what Risen (Ok rows) = HasTable parse has name rows.items
+-- what came of the table under a name: its text and its rows, or why there are none
+abbrev pub OfTable : {A : Type 0} → (List ℕ → Result (List A) Fault) → Relation → List ℕ → Subject → Type 0 → Result (LoadedTable A) NoTable → Type 0
+OfTable parse has name what Risen (Ok table) = IsTable parse has name table.text.items table.rows.items
 OfTable parse has name what Risen (Err no_table) = HaltsTable (RefusesTable parse has name what) Risen no_table
 
 -- what came of the files of these entries in this profile: they are loaded and `Holds` is true of them, or one of them is refused or cannot be read

@@ -1,6 +1,7 @@
 -- The files of a package while they are loaded, those of one kind before those of the other.
-use Rattle.std.specs.Prelude.{◌≡◌, ◌<◌, ◌++◌, ◌||◌, ◌&&◌, nat_lt, ℕ, Bool, true, false, List, [], length, get_or, slice_get, Option, None, Some, Result, Ok, Err}
+use Rattle.std.specs.Prelude.{◌≡◌, ◌<◌, ◌++◌, ◌||◌, ◌&&◌, nat_lt, ℕ, Bool, true, false, List, [], length, get_or, set, slice_get, Option, None, Some, Result, Ok, Err}
 use Rattle.std.specs.List.{count_by}
+use Rattle.sha2.specs.Sha256.{sha256}
 use Rattle.grid_units.specs.Holes.{GridRules}
 use Rattle.grid_units.specs.declared.profile.Profile.{Profile}
 use Rattle.board.specs.Boards.{BoardView}
@@ -22,6 +23,7 @@ use Rattle.package_check.specs.declared.open_file.OpenFile.{OpenFile}
 use Rattle.package_check.specs.declared.package_reader.PackageReader.{PackageReader}
 use Rattle.ringcheck_files.specs.LoaderRelation.{Relation, file_limit, too_long, within}
 use Rattle.ringcheck.specs.CheckStatus.{setting_in, sources}
+use Rattle.ringcheck.specs.Inner.Digests.{AreDigestsOf}
 use Rattle.ringcheck.specs.Inner.Halting.{Halts}
 use Rattle.ringcheck.specs.Refusals.{Refusal, of_file}
 use Rattle.ringcheck.specs.declared.load_package.CheckSink.{CheckSink}
@@ -71,15 +73,16 @@ CopperGoesOn start now bytes =
     (first : CheckView) (index layer : ℕ) (said : Said) (text : List ℕ)
     → HasOpenedCopper first start.check index layer said start.file text → HasOpenedCopper first now.check index layer said now.file (text ++ bytes)
 
--- the file of an entry was loaded, and a reader has taken it
-abbrev pub LoadsFile : Relation → PackageReader → PackageReader → ℕ → Entry → Type 0
-LoadsFile has before after index entry = (bytes : List ℕ) × within file_limit has entry.file bytes
-    × TakesFile before after index (source (reader_setting before) entry bytes)
+-- the file of an entry was loaded, a reader has taken it, and its digest is in its place, if it has one
+abbrev pub LoadsFile : Relation → PackageReader → PackageReader → List (List ℕ) → List (List ℕ) → ℕ → Entry → Type 0
+LoadsFile has before after digests digests_after index entry = (bytes : List ℕ) × within file_limit has entry.file bytes
+    × TakesFile before after index (source (reader_setting before) entry bytes) × (digests_after ≡ set digests index (sha256 bytes))
 
 -- what came of handing the file of an entry to a reader: that it has taken it, or why the file cannot be loaded
-abbrev pub OfTakenFile : Relation → PackageReader → PackageReader → ℕ → Entry → Type 0 → Option Halt → Type 0
-OfTakenFile has before after index entry Risen None = LoadsFile has before after index entry
-OfTakenFile has before after index entry Risen (Some halt) = Halts (RefusesLong has index entry) Risen halt × (after ≡ before)
+abbrev pub OfTakenFile : Relation → PackageReader → PackageReader → List (List ℕ) → List (List ℕ) → ℕ → Entry → Type 0 → Option Halt → Type 0
+OfTakenFile has before after digests digests_after index entry Risen None = LoadsFile has before after digests digests_after index entry
+OfTakenFile has before after digests digests_after index entry Risen (Some halt) =
+    Halts (RefusesLong has index entry) Risen halt × (after ≡ before) × (digests_after ≡ digests)
 
 -- where the files of some entries were gone through, the first that cannot be loaded, and why; or all were loaded
 abbrev pub EndsAt : Relation → List Entry → Type 0 → ℕ → Option Halt → Type 0
@@ -94,39 +97,49 @@ pub record HasLoaded (has : Relation) (profile : Profile) (entries : List Entry)
   pub loaded : (i : ℕ) (entry : Entry) → done i ≡ true → slice_get entries i ≡ Some entry → within file_limit has entry.file (get_or files i [])
   pub taken : Taken (sources profile entries files) done
 
+-- a reader has taken the files at some indexes, and these are their digests
+abbrev pub HasTakenHashed : PackageReader → Keep → List (List ℕ) → List FileView → (ℕ → Bool) → Type 0
+HasTakenHashed reader keep digests files done = HasTaken reader keep files done × AreDigestsOf digests files done
+
 -- Between two states of a reader the files of one kind below an index were loaded, and the reader has taken them. These are the files of the first entries of some
 -- list, whichever it is, of which other files were loaded before.
-abbrev pub LoadsKind : Relation → List Entry → PackageReader → PackageReader → Bool → ℕ → Type 0
-LoadsKind has entries before after copper end = (profile : Profile) (all : List Entry) (keep : Keep) (done : ℕ → Bool) → AreFirstOf entries all
+abbrev pub LoadsKind : Relation → List Entry → PackageReader → PackageReader → List (List ℕ) → List (List ℕ) → Bool → ℕ → Type 0
+LoadsKind has entries before after digests digests_after copper end =
+    (profile : Profile) (all : List Entry) (keep : Keep) (done : ℕ → Bool) → AreFirstOf entries all
     → reader_setting before ≡ setting_in profile all
-    → ((i : ℕ) → is_kind_at copper all i ≡ true → done i ≡ false) → HasLoaded has profile all (HasTaken before keep) done
-    → HasLoaded has profile all (HasTaken after keep) (λ i. done i || (nat_lt i end && is_kind_at copper all i))
+    → ((i : ℕ) → is_kind_at copper all i ≡ true → done i ≡ false) → HasLoaded has profile all (HasTakenHashed before keep digests) done
+    → HasLoaded has profile all (HasTakenHashed after keep digests_after) (λ i. done i || (nat_lt i end && is_kind_at copper all i))
 
 -- ---- the check
 
--- the copper file of an entry was loaded, and a check has taken it, its layer having this number
-abbrev pub LoadsCopper : Relation → CheckView → CheckView → ℕ → ℕ → Entry → Type 0
-LoadsCopper has before after index layer entry = (bytes : List ℕ) × within file_limit has entry.file bytes
-    × TakesCopper before after index layer (source (setting_of before) entry bytes)
+-- the copper file of an entry was loaded, a check has taken it, its layer having this number, and its digest is in its place, if it has one
+abbrev pub LoadsCopper : Relation → CheckView → CheckView → List (List ℕ) → List (List ℕ) → ℕ → ℕ → Entry → Type 0
+LoadsCopper has before after digests digests_after index layer entry = (bytes : List ℕ) × within file_limit has entry.file bytes
+    × TakesCopper before after index layer (source (setting_of before) entry bytes) × (digests_after ≡ set digests index (sha256 bytes))
 
 -- what came of handing the copper file of an entry to a check: the check, which has taken it; or why the file cannot be loaded
-abbrev pub OfCheckedFile : Relation → CheckView → ℕ → ℕ → Entry → Type 0 → Result CheckView Halt → Type 0
-OfCheckedFile has before index layer entry Risen (Ok after) = LoadsCopper has before after index layer entry × (setting_of after ≡ setting_of before)
-OfCheckedFile has before index layer entry Risen (Err halt) = Halts (RefusesLong has index entry) Risen halt
+abbrev pub OfCheckedFile : Relation → CheckView → List (List ℕ) → List (List ℕ) → ℕ → ℕ → Entry → Type 0 → Result CheckView Halt → Type 0
+OfCheckedFile has before digests digests_after index layer entry Risen (Ok after) =
+    LoadsCopper has before after digests digests_after index layer entry × (setting_of after ≡ setting_of before)
+OfCheckedFile has before digests digests_after index layer entry Risen (Err halt) = Halts (RefusesLong has index entry) Risen halt
+
+-- a check has taken the files at some indexes, and these are their digests
+abbrev pub HasJudgedHashed : CheckView → GridRules → List (List ℕ) → List FileView → (ℕ → Bool) → Type 0
+HasJudgedHashed check rules digests files done = HasJudged check files rules done × AreDigestsOf digests files done
 
 -- between two states of a check the copper files of these entries below an index were loaded, and the check has taken them; other files were loaded before
-abbrev pub LoadsCopperTo : Relation → List Entry → CheckView → CheckView → ℕ → Type 0
-LoadsCopperTo has entries before after end = (profile : Profile) (rules : GridRules) (done : ℕ → Bool)
+abbrev pub LoadsCopperTo : Relation → List Entry → CheckView → CheckView → List (List ℕ) → List (List ℕ) → ℕ → Type 0
+LoadsCopperTo has entries before after digests digests_after end = (profile : Profile) (rules : GridRules) (done : ℕ → Bool)
     → setting_of before ≡ setting_in profile entries → ((i : ℕ) → is_kind_at true entries i ≡ true → done i ≡ false)
-    → HasLoaded has profile entries (λ all. HasJudged before all rules) done
-    → HasLoaded has profile entries (λ all. HasJudged after all rules) (λ i. done i || (nat_lt i end && is_kind_at true entries i))
+    → HasLoaded has profile entries (HasJudgedHashed before rules digests) done
+    → HasLoaded has profile entries (HasJudgedHashed after rules digests_after) (λ i. done i || (nat_lt i end && is_kind_at true entries i))
 
 -- what came of handing the copper files of these entries to a check: the check, which has taken them; or why the first of them that cannot be loaded
 -- cannot be, those before it having been taken
-abbrev pub OfCheckedCopper : Relation → List Entry → CheckView → Type 0 → Result CheckView Halt → Type 0
-OfCheckedCopper has entries before Risen (Ok after) = LoadsCopperTo has entries before after (length entries)
-OfCheckedCopper has entries before Risen (Err halt) = (end : ℕ) × EndsAt has entries Risen end (Some halt) × (last : CheckView)
-    × LoadsCopperTo has entries before last end
+abbrev pub OfCheckedCopper : Relation → List Entry → CheckView → List (List ℕ) → List (List ℕ) → Type 0 → Result CheckView Halt → Type 0
+OfCheckedCopper has entries before digests digests_after Risen (Ok after) = LoadsCopperTo has entries before after digests digests_after (length entries)
+OfCheckedCopper has entries before digests digests_after Risen (Err halt) = (end : ℕ) × EndsAt has entries Risen end (Some halt) × (last : CheckView)
+    × (last_digests : List (List ℕ)) × LoadsCopperTo has entries before last digests last_digests end
 
 -- ---- what comes of all files
 
@@ -141,3 +154,7 @@ pub record IsCheckReport (rules : GridRules) (report : ReportView) (all : List F
   pub is : IsReport all rules report
   pub legal : AreLegal all
   pub sound : report.findings ≡ [] → IsSound all rules
+
+-- that report, and the digests of the files, where there are places for them
+abbrev pub IsHashedReport : GridRules → List (List ℕ) → ReportView → List FileView → Type 0
+IsHashedReport rules digests report all = IsCheckReport rules report all × AreDigestsOf digests all (λ i. true)

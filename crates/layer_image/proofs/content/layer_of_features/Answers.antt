@@ -5,9 +5,9 @@ use Rattle.layer_image.proofs.content.layer_of_features.Goals as goal
 pub returns : goal.returns
 returns c keep taken entries is h given =
     let copper = c.in_ok-parts.ensures keep taken (without_places entries) h.copper in
-    let scanned = c.finish-scanned.ensures (without_flashes (flashes_of (without_places entries))) entries h.scanned in
+    let scanned = c.finish-scanned.ensures (without_flashes c.args.profile (flashes_of (without_places entries))) entries h.scanned in
     let parts = c.in_ok-parts.parts in
-    let strict = c.strict_counts.ensures (without_flashes (flashes_of (without_places entries))) (without_places entries) scanned in
+    let strict = c.strict_counts.ensures (without_flashes c.args.profile (flashes_of (without_places entries))) (without_places entries) scanned in
     let left = left_pads c.args.met.copper.kept taken in
     subst (λ (kept : KeptLayer). IsKeptOf c.args.profile keep left entries kept) (λ i. record {
       commands = c.args.commands.items;

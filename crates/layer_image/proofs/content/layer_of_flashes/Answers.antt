@@ -4,8 +4,8 @@ use Rattle.layer_image.proofs.content.layer_of_flashes.Goals as goal
 
 pub returns : goal.returns
 returns c profile keep taken entries h given =
-    let scanned = c.finish-scanned.ensures (without_pads h.kept h.plain_taken) entries h.scanned in
-    let counts = c.strict_counts-counts.ensures (without_pads h.kept h.plain_taken) (without_places entries) scanned in
+    let scanned = c.finish-scanned.ensures (without_pads profile h.kept h.plain_taken) entries h.scanned in
+    let counts = c.strict_counts-counts.ensures (without_pads profile h.kept h.plain_taken) (without_places entries) scanned in
     subst (λ (kept : KeptLayer). IsKeptOf profile keep taken entries kept) (λ i. record {
       commands = c.args.commands.items;
       flashes = c.finish-scanned.result.flashes.items;

@@ -1,4 +1,4 @@
-use Rattle.ringcheck.proofs.Common.{◌≡◌, ◌∙◌, ◌&&◌, ◌||◌, ◌+◌, ℕ, ap, arith, length, ltb, refl, subst, sym, true, slice_get_read, Entry, CheckView, setting_of, HasJudged, is_copper, HasLoaded, LoadsCopperTo, is_kind_at, is_kind_of}
+use Rattle.ringcheck.proofs.Common.{◌≡◌, ◌∙◌, ◌+◌, ℕ, ap, arith, length, refl, subst, sym, true, slice_get_read, Entry, setting_of, is_copper, HasJudgedHashed, LoadsCopperTo, is_kind_of}
 use Rattle.std.proofs.lemmas.List.Sums.{count_by_more_no, count_by_more_yes}
 use Rattle.ringcheck.proofs.LoadedFiles.{copper_loaded, halts_since, kind_passed, none_yet}
 use Rattle.ringcheck.proofs.load_package.check_copper.Goals as goal
@@ -11,7 +11,7 @@ loop-index-init g c = record {
   setting = refl;
   number = refl;
   few = omega arith;
-  loaded = λ profile rules done read_in new h. none_yet (g.L.Loader.has c.args.loader.now) profile c.args.entries.now true (λ files. HasJudged c.args.check files rules) done h;
+  loaded = λ profile rules done read_in new h. none_yet (g.L.Loader.has c.args.loader.now) profile c.args.entries.now true (HasJudgedHashed c.args.check rules c.args.digests.now) done h;
 }
 
 pub loop-index-preserved : goal.loop-index-preserved
@@ -27,7 +27,7 @@ loop-index-preserved g c =
       | then-is_copper+in_ok-checked+in-Ok w ↦
           let one = w.in_ok-checked.ensures in
           let copper = sym c.is_copper.ensures ∙ w.if-is_copper.true in
-          let ((bytes, held, takes), same_setting) = rw w.in-Ok.is at one.taken copper in
+          let ((bytes, held, takes, hashed), same_setting) = rw w.in-Ok.is at one.taken copper in
           let layer_is = w.layer-is in
           record {
             keeps = λ n b. rw w.loader-is (λ h. (inv.keeps n b).0 ((one.keeps n b).0 h), λ h. (one.keeps n b).1 ((inv.keeps n b).1 h));
@@ -36,9 +36,9 @@ loop-index-preserved g c =
             number = w.layer-is ∙ (ap (λ (n : ℕ). n + 1) inv.number ∙ sym (count_by_more_yes (λ (e : Entry). is_copper e.role) entries k entry c.loop-index-test.true (ap (λ (e : Entry). is_copper e.role) (sym c.index-entries-index.is) ∙ copper)));
             few = omega (arith, few, layer_is);
             loaded = λ profile rules done read_in new h.
-                subst (λ (v : CheckView). HasLoaded has profile entries (λ files. HasJudged v files rules) (λ i. done i || (ltb i (k + 1) && is_kind_at true entries i))) (sym w.check-is)
-                (copper_loaded has profile entries rules c.loop-index.check w.in-Ok.checked done k c.loop-index.layer entry at copper (inv.setting ∙ read_in) (new k (ap (is_kind_of true) at ∙ copper)) inv.number
-                (bytes, ((inv.keeps entry.file bytes).0 held.0, held.1), takes) (inv.loaded profile rules done read_in new h));
+                rw (w.check-is, w.digests-is)
+                (copper_loaded has profile entries rules c.loop-index.check w.in-Ok.checked c.loop-index.digests w.check_file.new.digests done k c.loop-index.layer entry at copper (inv.setting ∙ read_in) (new k (ap (is_kind_of true) at ∙ copper)) inv.number
+                (bytes, ((inv.keeps entry.file bytes).0 held.0, held.1), takes, hashed) (inv.loaded profile rules done read_in new h));
           }
       | else-is_copper w ↦
           let drill = sym c.is_copper.ensures ∙ w.if-is_copper.false in
@@ -50,8 +50,8 @@ loop-index-preserved g c =
             number = w.layer-is ∙ (inv.number ∙ sym (count_by_more_no (λ (e : Entry). is_copper e.role) entries k entry c.loop-index-test.true (ap (λ (e : Entry). is_copper e.role) (sym c.index-entries-index.is) ∙ drill)));
             few = omega (arith, few, layer_is);
             loaded = λ profile rules done read_in new h.
-                subst (λ (v : CheckView). HasLoaded has profile entries (λ files. HasJudged v files rules) (λ i. done i || (ltb i (k + 1) && is_kind_at true entries i))) (sym w.check-is)
-                (kind_passed has profile entries true (λ files. HasJudged c.loop-index.check files rules) done k entry at drill (inv.loaded profile rules done read_in new h));
+                rw (w.check-is, w.digests-is)
+                (kind_passed has profile entries true (HasJudgedHashed c.loop-index.check rules c.loop-index.digests) done k entry at drill (inv.loaded profile rules done read_in new h));
           }
     ]
 
@@ -59,7 +59,7 @@ pub returns-clause-taken : goal.returns-clause-taken
 returns-clause-taken g c =
     let entries = c.args.entries.now in
     let at_end : c.loop-index.index ≡ length entries = omega (arith, c.loop-index.auto.index-end, c.loop-index-test.false) in
-    subst (λ (n : ℕ). LoadsCopperTo (g.L.Loader.has c.args.loader.now) entries c.args.check c.loop-index.check n) at_end c.loop-index.invariant.loaded
+    subst (λ (n : ℕ). LoadsCopperTo (g.L.Loader.has c.args.loader.now) entries c.args.check c.loop-index.check c.args.digests.now c.loop-index.digests n) at_end c.loop-index.invariant.loaded
 
 pub returns-in-Err-clause-taken : goal.returns-in-Err-clause-taken
 returns-in-Err-clause-taken g c =
@@ -76,5 +76,6 @@ returns-in-Err-clause-taken g c =
       k,
       (entry, at, halts_since (has between) (has old) (λ n b. (inv.keeps n b).0) k entry (failed old) (failed between) (failed new) inv.counted c.in-Err.halt halts),
       c.loop-index.check,
+      c.loop-index.digests,
       inv.loaded,
     )

@@ -8,5 +8,5 @@ invariant-loop-index g l = record {
   setting : setting_of l.check ≡ setting_of l.initial.check;
   number : l.layer ≡ count_by (λ entry. is_copper entry.role) (take l.index l.entries);
   few : l.layer ≤ l.index;
-  loaded : LoadsCopperTo (g.L.Loader.has l.initial.loader) l.entries l.initial.check l.check l.index;
+  loaded : LoadsCopperTo (g.L.Loader.has l.initial.loader) l.entries l.initial.check l.check l.initial.digests l.digests l.index;
 }

@@ -1,4 +1,4 @@
-use Rattle.ringcheck.proofs.Common.{ℕ, ap, subst, ◌∙◌, IfOk-weaker, HasRisen, IsBoard, Returns, Setting, sources}
+use Rattle.ringcheck.proofs.Common.{List, [], ℕ, ap, subst, ◌∙◌, IfOk-weaker, HasRisen, IsBoard, Returns, Setting, sources}
 use Rattle.package_check.specs.Boards.{IsDrawnBoard, IsFlashedBoard}
 use Rattle.ringcheck.specs.Inner.Loading.{IsKeptBoard}
 use Rattle.ringcheck.proofs.LoadedFiles.{IsEnd, passes_end}
@@ -15,7 +15,7 @@ ended g c =
     let one = c.in_ok-drills.ensures in
     let two = c.in_ok-copper.ensures in
     let read_in = c.keeping-reader.ensures.setting ∙ ap (λ (n : ℕ). let s : Setting = record { layers = n; profile = c.args.profile } in s) c.layer_count.ensures in
-    rw c.or.ensures (passes_end (has c.args.loader.now) (has c.take_kind.new.loader) one.keeps c.args.profile c.args.entries.now c.args.keep c.keeping-reader.result c.take_kind.new.reader c.take_kind-2.new.reader
+    rw c.or.ensures (passes_end (has c.args.loader.now) (has c.take_kind.new.loader) one.keeps c.args.profile c.args.entries.now c.args.keep c.keeping-reader.result c.take_kind.new.reader c.take_kind-2.new.reader (let none : List (List ℕ) = [] in none) c.take_kind.new.digests c.take_kind-2.new.digests
     c.in_ok-drills.drills.end c.in_ok-copper.copper.end (failed c.args.loader.now) (failed c.take_kind.new.loader) (failed c.take_kind-2.new.loader) read_in one.setting c.keeping-reader.ensures.stands one.loaded two.loaded
     one.counts two.counts one.within two.within c.in_ok-drills.drills.halt c.in_ok-copper.copper.halt one.ends two.ends)
 

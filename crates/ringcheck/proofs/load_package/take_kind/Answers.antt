@@ -1,6 +1,5 @@
-use Rattle.ringcheck.proofs.Common.{◌∙◌, ◌&&◌, ◌||◌, ◌+◌, ap, arith, ltb, refl, subst, sym, slice_get_read, HasTaken, HasLoaded, is_kind_at, is_kind_of}
+use Rattle.ringcheck.proofs.Common.{◌∙◌, ap, arith, refl, sym, slice_get_read, HasTakenHashed, is_kind_of}
 use Rattle.package_check.specs.Holding.{setting_of}
-use Rattle.package_check.specs.declared.package_reader.PackageReader.{PackageReader}
 use Rattle.ringcheck.proofs.LoadedFiles.{kind_passed, none_yet, reader_loaded}
 use Rattle.ringcheck.proofs.load_package.take_kind.Goals as goal
 use Rattle.ringcheck.proofs.load_package.take_kind.Goals.{then-is_kind+in_ok-halt+in_default, else-is_kind}
@@ -10,7 +9,7 @@ loop-index-init g c = record {
   keeps = λ n b. (λ h. h, λ h. h);
   counted = omega arith;
   setting = refl;
-  loaded = λ profile all keep done first read_in new h. none_yet (g.L.Loader.has c.args.loader.now) profile all c.args.copper (HasTaken c.args.reader.now keep) done h;
+  loaded = λ profile all keep done first read_in new h. none_yet (g.L.Loader.has c.args.loader.now) profile all c.args.copper (HasTakenHashed c.args.reader.now keep c.args.digests.now) done h;
 }
 
 pub loop-index-preserved : goal.loop-index-preserved
@@ -26,16 +25,16 @@ loop-index-preserved g c =
       | then-is_kind+in_ok-halt+in_default w ↦
           let one = w.in_ok-halt.ensures in
           let kind = sym c.is_kind.ensures ∙ w.if-is_kind.true in
-          let (bytes, held, takes) = rw w.in_default.is at one.taken in
+          let (bytes, held, takes, hashed) = rw w.in_default.is at one.taken in
           record {
             keeps = λ n b. rw w.loader-is (λ h. (inv.keeps n b).0 ((one.keeps n b).0 h), λ h. (one.keeps n b).1 ((inv.keeps n b).1 h));
             counted = rw w.loader-is (omega (arith, one.counts, inv.counted));
             setting = ap setting_of w.reader-is ∙ (one.setting ∙ inv.setting);
             loaded = λ profile all keep done first read_in new h.
                 let at = first k entry here in
-                subst (λ (r : PackageReader). HasLoaded has profile all (HasTaken r keep) (λ i. done i || (ltb i (k + 1) && is_kind_at copper all i))) (sym w.reader-is)
-                (reader_loaded has profile all keep copper c.loop-index.reader w.take_file.new.reader done k entry at kind (inv.setting ∙ read_in) (new k (ap (is_kind_of copper) at ∙ kind))
-                (bytes, ((inv.keeps entry.file bytes).0 held.0, held.1), takes) (inv.loaded profile all keep done first read_in new h));
+                rw (w.reader-is, w.digests-is)
+                (reader_loaded has profile all keep copper c.loop-index.reader w.take_file.new.reader c.loop-index.digests w.take_file.new.digests done k entry at kind (inv.setting ∙ read_in) (new k (ap (is_kind_of copper) at ∙ kind))
+                (bytes, ((inv.keeps entry.file bytes).0 held.0, held.1), takes, hashed) (inv.loaded profile all keep done first read_in new h));
           }
       | else-is_kind w ↦
           let kind = sym c.is_kind.ensures ∙ w.if-is_kind.false in
@@ -44,7 +43,7 @@ loop-index-preserved g c =
             counted = rw w.loader-is inv.counted;
             setting = ap setting_of w.reader-is ∙ inv.setting;
             loaded = λ profile all keep done first read_in new h.
-                subst (λ (r : PackageReader). HasLoaded has profile all (HasTaken r keep) (λ i. done i || (ltb i (k + 1) && is_kind_at copper all i))) (sym w.reader-is)
-                (kind_passed has profile all copper (HasTaken c.loop-index.reader keep) done k entry (first k entry here) kind (inv.loaded profile all keep done first read_in new h));
+                rw (w.reader-is, w.digests-is)
+                (kind_passed has profile all copper (HasTakenHashed c.loop-index.reader keep c.loop-index.digests) done k entry (first k entry here) kind (inv.loaded profile all keep done first read_in new h));
           }
     ]

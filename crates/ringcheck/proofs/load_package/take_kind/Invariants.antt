@@ -7,5 +7,5 @@ invariant-loop-index g l = record {
   keeps : (n b : List ℕ) → g.L.Loader.has l.loader n b ↔ g.L.Loader.has l.initial.loader n b;
   counted : g.L.Loader.failed l.initial.loader ≤ g.L.Loader.failed l.loader;
   setting : setting_of l.reader ≡ setting_of l.initial.reader;
-  loaded : LoadsKind (g.L.Loader.has l.initial.loader) l.entries l.initial.reader l.reader l.fn.copper l.index;
+  loaded : LoadsKind (g.L.Loader.has l.initial.loader) l.entries l.initial.reader l.reader l.initial.digests l.digests l.fn.copper l.index;
 }

@@ -1,5 +1,5 @@
 use Rattle.ringcheck.proofs.Common.{None, Some, sym}
-use Rattle.ringcheck.proofs.RequestLemmas.{check_status, draw_status, explain_status, manifest_status, measure_status, report_status, rewrite_status, show_status}
+use Rattle.ringcheck.proofs.RequestLemmas.{certify_status, check_status, draw_status, explain_status, manifest_status, measure_status, report_status, rewrite_status, show_status, verify_status}
 use Rattle.ringcheck.proofs.program.run.Goals as goal
 
 pub returns-in-Ok-clause-report : goal.returns-in-Ok-clause-report
@@ -16,6 +16,16 @@ pub returns-in-Ok-clause-check : goal.returns-in-Ok-clause-check
 returns-in-Ok-clause-check g c r gap profile folder m words plain_r plain_gap plain_profile plain_folder plain_m =
     let (there, is) = c.in-Ok.ensures.check r gap profile folder m words plain_r plain_gap plain_profile plain_folder plain_m in
     rw (sym there) (check_status _ r gap profile m c.in-Ok.line.request _ _ _ _ _ is c.answer.ensures)
+
+pub returns-in-Ok-clause-certify : goal.returns-in-Ok-clause-certify
+returns-in-Ok-clause-certify g c r gap profile folder m words plain_r plain_gap plain_profile plain_folder plain_m =
+    let (there, is) = c.in-Ok.ensures.certify r gap profile folder m words plain_r plain_gap plain_profile plain_folder plain_m in
+    rw (sym there) (certify_status _ r gap profile m c.in-Ok.line.request _ _ _ _ _ is c.answer.ensures)
+
+pub returns-in-Ok-clause-verify : goal.returns-in-Ok-clause-verify
+returns-in-Ok-clause-verify g c folder name words plain_folder plain_name =
+    let (there, is) = c.in-Ok.ensures.verify folder name words plain_folder plain_name in
+    rw (sym there) (verify_status _ name c.in-Ok.line.request _ _ _ _ _ is c.answer.ensures)
 
 pub returns-in-Ok-clause-measure : goal.returns-in-Ok-clause-measure
 returns-in-Ok-clause-measure g c profile format folder m words plain_profile plain_format plain_folder plain_m =

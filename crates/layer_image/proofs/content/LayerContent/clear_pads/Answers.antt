@@ -15,4 +15,4 @@ returns-in-Features-clause-gone c = λ profile keep taken before h.
     let was = subst (λ (l : LayerContent). HasContent profile keep taken l before) c.in-Features.is h in
     let old = c.in-Features.met in
     let new : Met = record { scan = old.scan; copper = c.clear_pads-in-Features.new.self } in
-    (was.0, subst (λ (l : LayerContent). HasMetLegal keep (standing_in l taken) new before) (sym c.in-Features.is) (record { scanned = was.1.scanned; copper = c.clear_pads-in-Features.ensures.gone keep taken (without_places before) was.1.copper }))
+    (was.0, subst (λ (l : LayerContent). HasMetLegal profile keep (standing_in l taken) new before) (sym c.in-Features.is) (record { scanned = was.1.scanned; copper = c.clear_pads-in-Features.ensures.gone keep taken (without_places before) was.1.copper }))

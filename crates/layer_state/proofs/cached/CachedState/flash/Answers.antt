@@ -15,7 +15,7 @@ returns c =
     let across = named c.args.x c.unwrap_or-across.result cached.state.current.x named_x x c.unwrap_or-across.ensures in
     let up = named c.args.y c.unwrap_or-up.result cached.state.current.y named_y y c.unwrap_or-up.ensures in
     let at = c.point-at.ensures ∙ (λ k. point_of l (across k) (up k)) in
-    flash_is_legal (state_of cached.state) (flash_count cached.state.flashes) l cached.cached.what c.args.action c.args.x c.args.y c.args.i c.args.j _ l.near (cached.cached_values.0 c.if-not-self.false) (cached.cached_values.1 c.if-not-self-2.false)
+    flash_is_legal _ (state_of cached.state) (flash_count cached.state.flashes) l cached.cached.what c.args.action c.args.x c.args.y c.args.i c.args.j _ l.near (cached.cached_values.0 c.if-not-self.false) (cached.cached_values.1 c.if-not-self-2.false)
     (sym c.is_flash.ensures ∙ c.if-not-is_flash.false) (cc) (omega arith)
     (ap (λ n. nat_le (unsigned_abs n) l.limit) (sym across) ∙ sym c.has.ensures ∙ c.if-not-has.false)
     (ap (λ n. nat_le (unsigned_abs n) l.limit) (sym up) ∙ sym c.has-else-not-has.ensures ∙ c.if-not-has-2.false)

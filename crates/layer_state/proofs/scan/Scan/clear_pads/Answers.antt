@@ -5,6 +5,6 @@ pub returns-clause-gone : goal.returns-clause-gone
 returns-clause-gone c parts before h =
     let state = h.met.is_state in
     record {
-      met = record { is_state = record { state_after = state.state_after; macros = state.macros; apertures = state.apertures; flashes = c.clear_pads.ensures.gone parts (flashes_of (without_places before)) state.flashes }; named = h.met.named };
+      met = record { is_state = record { state_after = state.state_after; profile = state.profile; templates = state.templates; macros = state.macros; apertures = state.apertures; flashes = c.clear_pads.ensures.gone parts (flashes_of (without_places before)) state.flashes }; named = h.met.named };
       legal = h.legal;
     }

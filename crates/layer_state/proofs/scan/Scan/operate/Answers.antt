@@ -30,5 +30,5 @@ returns-in-Err-clause-refused c parts before h =
     let so_far : Entries = before ++ item_entries passed.place passed.byte (modes_of found.mode) in
     let still = mode_scanned old parts before passed.place passed.byte found.mode h in
     let answer = operation_result parts (without_places so_far) old new found.action found.x found.y found.i found.j (Err c.in-Err.stop) refl still.met (c.in-Err.ensures parts (without_places so_far) still.met.is_state) in
-    let first = stop_is_first_fault parts so_far [] e new c.in-Err.stop (sound so_far still.legal) answer in
-    subst (IfFault (IsFirstFault (before ++ item_entries passed.place passed.byte (modes_of found.mode ++ what ∷ [])))) (sym c.fail_at.ensures) (subst (λ (l : Entries). IfFault (IsFirstFault l) (fail_at passed.place passed.byte c.in-Err.stop)) (operation_last before passed.place passed.byte found.mode what) first)
+    let first = stop_is_first_fault parts so_far [] e new c.in-Err.stop (sound parts.profile so_far still.legal) answer in
+    subst (IfFault (IsFirstFault parts.profile (before ++ item_entries passed.place passed.byte (modes_of found.mode ++ what ∷ [])))) (sym c.fail_at.ensures) (subst (λ (l : Entries). IfFault (IsFirstFault parts.profile l) (fail_at passed.place passed.byte c.in-Err.stop)) (operation_last before passed.place passed.byte found.mode what) first)

@@ -19,7 +19,7 @@ returns-in_err-take-clause-refused c parts before h =
     let p = err_from_is_err_and c.from_residual.result c.from_residual.ensures.1 in
     let cs = c.args.entries.now in
     let i = c.loop-entry.entry-index in
-    rw (p.1, p.2) (fault_of_all before cs i c.entry-item.result c.in_err-take.field-0.0 (omega arith) c.entry-item.is (c.in_err-take.ensures.refused parts (before ++ take i cs) (c.loop-entry.invariant parts before h)))
+    rw (p.1, p.2) (fault_of_all parts.profile before cs i c.entry-item.result c.in_err-take.field-0.0 (omega arith) c.entry-item.is (c.in_err-take.ensures.refused parts (before ++ take i cs) (c.loop-entry.invariant parts before h)))
 
 pub returns-clause-ok : goal.returns-clause-ok
 returns-clause-ok c parts before h =

@@ -11,4 +11,4 @@ returns-in-Ok-clause-ok c parts before h = scanned_more c.args.self.now c.scan_o
 pub returns-in-Err-clause-refused : goal.returns-in-Err-clause-refused
 returns-in-Err-clause-refused c parts before h =
     let e = c.args.entry.now in
-    subst (IfFault (IsFirstFault (before ++ e ∷ []))) (sym c.fail_at.ensures) (stop_is_first_fault parts before [] e c.scan_one.new.self c.in-Err.stop (sound before h.legal) (c.in-Err.ensures parts (without_places before) h.met))
+    subst (IfFault (IsFirstFault parts.profile (before ++ e ∷ []))) (sym c.fail_at.ensures) (stop_is_first_fault parts before [] e c.scan_one.new.self c.in-Err.stop (sound parts.profile before h.legal) (c.in-Err.ensures parts (without_places before) h.met))

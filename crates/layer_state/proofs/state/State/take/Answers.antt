@@ -1,12 +1,12 @@
 -- What breaks no rule does not reach too far, and has no size out of its range.
-use Rattle.layer_state.proofs.Common.{◌≡◌, ◌∙◌, sym, subst, false, Command, sets_bad_size, flash_count, state_of, state_with, aperture_at, has_name}
+use Rattle.layer_state.proofs.Common.{◌≡◌, ◌∙◌, sym, subst, false, Command, sets_bad_size, flash_count, is_allowed_again, state_of, state_with, aperture_at, has_name}
 use Rattle.layer_state.proofs.RulesLemmas.{sizes_in_range}
 use Rattle.layer_state.proofs.StateLemmas.{FlashFits, flash_fits}
 use Rattle.layer_state.proofs.state.State.take.Goals as goal
 
 pub aperture_of-aperture-requires : goal.aperture_of-aperture-requires
 aperture_of-aperture-requires c =
-    rw c.get-template.ensures (subst (λ (x : Command). sets_bad_size x ≡ false) c.in-Define.is (sizes_in_range (state_of c.args.self.now) (flash_count c.args.self.now.flashes) c.args.command.now c.requires))
+    rw c.get-template.ensures (subst (λ (x : Command). sets_bad_size x ≡ false) c.in-Define.is (sizes_in_range (is_allowed_again c.args.self.now.apertures c.args.command.now) (state_of c.args.self.now) (flash_count c.args.self.now.flashes) c.args.command.now c.requires))
 
 fits : (c : goal.After-flash-arg-1) → FlashFits (state_with c.take.new.self (aperture_at c.args.self.now.apertures) (has_name c.args.self.now.macros)) (flash_count c.args.self.now.flashes)
 fits c =

@@ -1,5 +1,5 @@
 use Rattle.command_line.proofs.Common.{◌∙◌, ap₂, IfOk-weaker, with_rule}
-use Rattle.command_line.proofs.commands.check.Goals as goal
+use Rattle.command_line.proofs.commands.rules_command.Goals as goal
 
 pub returns : goal.returns
 returns c =
