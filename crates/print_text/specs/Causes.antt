@@ -72,21 +72,30 @@ kind_words kinds.Drawn = codes "only drawn copper"
 kind_words kinds.Bare = codes "no pad at the hole"
 kind_words kinds.Oblique = codes "oblique slot"
 
--- the hint for flashes by a macro: in the wide profile those of some forms are judged
-abbrev pub macro_hint : Profile → List ℕ
-macro_hint Strict = codes "--profile wide counts macros whose shape is known, such as rounded rectangles; or choose circle, oval or rectangle: see `ringcheck explain macro`"
-macro_hint Wide = codes "macros of this form are not judged: choose circle, oval or rectangle: see `ringcheck explain macro`"
+-- one of two texts, by the profile: in the wide one flashes of some forms count that the strict one does not judge
+abbrev pub in_profile : Profile → List ℕ → List ℕ → List ℕ
+in_profile Strict strict wide = strict
+in_profile Wide strict wide = wide
 
 -- the hint that a report in a profile prints for a kind
 abbrev pub hint : Profile → CauseKind → List ℕ
 hint profile kinds.TooSmall = codes "the pad's own radius or half side is less than the hole's radius plus the ring"
 hint profile kinds.OffCentre = codes "the pad is large enough for a hole at its centre; drill files are rounded: see `ringcheck explain ring`"
 hint profile kinds.Edge = codes "move the hole or enlarge the pad: rings in rounded pads and contours are measured to their edge"
-hint profile kinds.Macro = macro_hint profile
-hint profile kinds.Polygon = codes "polygon flashes are not judged"
+hint profile kinds.Macro =
+    in_profile profile
+    (codes "--profile wide counts macros whose shape is known, such as rounded rectangles; or choose circle, oval or rectangle: see `ringcheck explain macro`")
+    (codes "macros of this form are not judged: choose circle, oval or rectangle: see `ringcheck explain macro`")
+hint profile kinds.Polygon =
+    in_profile profile
+    (codes "--profile wide counts the disc inside a polygon of up to twelve sides; or choose circle, oval or rectangle: see `ringcheck explain polygon`")
+    (codes "polygons of this form are not judged: choose circle, oval or rectangle: see `ringcheck explain polygon`")
 hint profile kinds.Holed = codes "flashes with a hole are not judged"
 hint profile kinds.Scaled = codes "scaled flashes are not judged"
-hint profile kinds.Turned = codes "flashes turned by anything but quarter turns are not judged"
+hint profile kinds.Turned =
+    in_profile profile
+    (codes "--profile wide counts the disc inside a turned rectangle or oval; or turn the pad by quarter turns: see `ringcheck explain turned`")
+    (codes "flashes of this form turned by anything but quarter turns are not judged: see `ringcheck explain turned`")
 hint profile kinds.Clear = codes "a flash in clear polarity takes copper away"
 hint profile kinds.Cleared = codes "a flash that clear polarity may remove does not count"
 hint profile kinds.Drawn = codes "--profile wide counts convex contours as pads; or flash a pad there: see `ringcheck explain none`"

@@ -1,7 +1,7 @@
 //! The kinds of causes, in the order in which a report counts them.
 
 ghost use Rattle.std.specs.Prelude.{◌≡◌};
-ghost use Rattle.print_text.specs.Causes.{flash_kind, hint, kind_of, kind_words};
+ghost use Rattle.print_text.specs.Causes.{flash_kind, hint, in_profile, kind_of, kind_words};
 
 use grid_units::Profile;
 use pad_shapes::Why;
@@ -101,6 +101,17 @@ pub fn words_for_cause(cause: &RingCause) -> &'static str
     kind_words(kind_of(cause))
 }
 
+/// One of two texts, by the profile.
+fn in_profile(profile: Profile, strict: &'static str, wide: &'static str) -> &'static str
+    ensures { result.now ≡ in_profile profile strict.entry.now wide.entry.now }
+{
+    if profile == Profile::Wide {
+        wide
+    } else {
+        strict
+    }
+}
+
 /// The hint that a report in a profile prints for a kind.
 pub(crate) fn hint(profile: Profile, kind: CauseKind) -> &'static str
     ensures { result.now ≡ hint profile kind }
@@ -115,18 +126,23 @@ pub(crate) fn hint(profile: Profile, kind: CauseKind) -> &'static str
         CauseKind::Edge => {
             "move the hole or enlarge the pad: rings in rounded pads and contours are measured to their edge"
         }
-        CauseKind::Macro => match profile {
-            Profile::Strict => {
-                "--profile wide counts macros whose shape is known, such as rounded rectangles; or choose circle, oval or rectangle: see `ringcheck explain macro`"
-            }
-            Profile::Wide => {
-                "macros of this form are not judged: choose circle, oval or rectangle: see `ringcheck explain macro`"
-            }
-        },
-        CauseKind::Polygon => "polygon flashes are not judged",
+        CauseKind::Macro => in_profile(
+            profile,
+            "--profile wide counts macros whose shape is known, such as rounded rectangles; or choose circle, oval or rectangle: see `ringcheck explain macro`",
+            "macros of this form are not judged: choose circle, oval or rectangle: see `ringcheck explain macro`",
+        ),
+        CauseKind::Polygon => in_profile(
+            profile,
+            "--profile wide counts the disc inside a polygon of up to twelve sides; or choose circle, oval or rectangle: see `ringcheck explain polygon`",
+            "polygons of this form are not judged: choose circle, oval or rectangle: see `ringcheck explain polygon`",
+        ),
         CauseKind::Holed => "flashes with a hole are not judged",
         CauseKind::Scaled => "scaled flashes are not judged",
-        CauseKind::Turned => "flashes turned by anything but quarter turns are not judged",
+        CauseKind::Turned => in_profile(
+            profile,
+            "--profile wide counts the disc inside a turned rectangle or oval; or turn the pad by quarter turns: see `ringcheck explain turned`",
+            "flashes of this form turned by anything but quarter turns are not judged: see `ringcheck explain turned`",
+        ),
         CauseKind::Clear => "a flash in clear polarity takes copper away",
         CauseKind::Cleared => "a flash that clear polarity may remove does not count",
         CauseKind::Drawn => {

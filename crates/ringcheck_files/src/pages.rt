@@ -352,6 +352,8 @@ Or check with --profile wide: it counts such a pad if its shape is known.
     "\
 polygon: a flash of a regular polygon is not judged. Choose a circle, an oval
 or a rectangle for the pad.
+Or check with --profile wide: it counts the disc inside a polygon of up to
+twelve sides that has no hole.
 ",
     "\
 holed: a flash of an aperture with a hole in it is not judged. Choose an
@@ -364,6 +366,8 @@ its own size.
     "\
 turned: a flash turned (%LR) by an angle that is not a multiple of 90 degrees
 is not judged, whatever its shape. Turn the pad by a multiple of 90 degrees.
+Or check with --profile wide: of a rectangle or an oval it counts the disc
+inside.
 ",
     "\
 clear: in the wide profile, the only flash here is in clear polarity (%LPC),
