@@ -16,9 +16,8 @@ pub const VERSION_LINE: &str = "ringcheck 0.1.0\n";
 /// The program and its version, as reports name them.
 pub const PROGRAM: &str = "ringcheck 0.1.0";
 
-const STATUSES: &str =
-    "Exit status: 0 no findings, all of them waived, or done; 1 findings; 2 refused
-or not certified; 3 usage error; 4 a file cannot be read, or out of memory.
+const STATUSES: &str = "Exit status: 0 no findings, all of them waived, or done; 1 findings, or not
+certified; 2 refused; 3 usage error; 4 a file cannot be read, or out of memory.
 To start:  ringcheck manifest gerbers/* > board.csv; ringcheck check --help";
 
 const RING: &str = "Minimum annular ring in mm, e.g. 0.125";
@@ -75,7 +74,7 @@ Example:  ringcheck certify --ring 0.125 --gap 0.25 board.csv > board.json";
 
 const VERIFY: &str = "The package is checked again, under the rules of the certificate: CERTIFIED if
 it passes and no file has changed; else NOT CERTIFIED, with the files that
-differ, and exit status 2.
+differ, and exit status 1.
 Example:  ringcheck verify board.json";
 
 // After `Usage: ` it stands on two lines.
