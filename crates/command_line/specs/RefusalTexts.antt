@@ -11,7 +11,7 @@ use Rattle.command_line.specs.declared.Refusal.{Refusal}
 use Rattle.command_line.specs.declared.Refusal.TheVariants.{Help, Version, Usage, Memory}
 use Rattle.command_line.specs.ProgramArgs.{ringcheck_app}
 
--- where waivers belong, which is said to a check that is given some
+-- where waivers belong, which is said to a check or a certificate that is asked for with some
 abbrev pub waivers_in_check : Text
 waivers_in_check = codes "\nOnly report takes waivers; it prints why each finding is accepted:\n  ringcheck report --ring MM --gap MM --waive FILE MANIFEST\n"
 
@@ -19,12 +19,12 @@ waivers_in_check = codes "\nOnly report takes waivers; it prints why each findin
 abbrev pub is_waive_option : Text → Bool
 is_waive_option word = bytes_eq word (codes "--waive") || bytes_eq (take 8 word) (codes "--waive=")
 
--- whether words are those of a check that is given waivers
+-- whether words are those of a check or a certificate that is asked for with waivers
 abbrev pub is_check_with_waivers : List Text → Bool
 is_check_with_waivers [] = false
-is_check_with_waivers (command ∷ words) = bytes_eq command (codes "check") && list_any is_waive_option words
+is_check_with_waivers (command ∷ words) = (bytes_eq command (codes "check") || bytes_eq command (codes "certify")) && list_any is_waive_option words
 
--- what stands below the text for an error of this kind in these words: where waivers belong, for a check that is given some
+-- what stands below the text for an error of this kind in these words: where waivers belong, for a check or a certificate that is asked for with some
 abbrev pub below_text : ErrorKind → List Text → Text
 below_text UnknownArgument words = cond (is_check_with_waivers words) waivers_in_check []
 below_text kind words = []

@@ -373,7 +373,7 @@ fn value<'a>(values: &ArgMatches<'a>, id: &str) -> Option<&'a str>
     values.get_str(id)
 }
 
-/// What is said below the text of `clap` to a check that is given waivers.
+/// What is said below the text of `clap` to a check, or a certificate that is asked for, with waivers.
 const WAIVERS_IN_CHECK: &str = "
 Only report takes waivers; it prints why each finding is accepted:
   ringcheck report --ring MM --gap MM --waive FILE MANIFEST
@@ -393,12 +393,14 @@ fn has_waive_option(words: &[&str]) -> bool
     words.iter().any(|word| is_waive_option(word))
 }
 
-/// Whether the words are those of a check that is given waivers.
+/// Whether the words are those of a check that is given waivers, or of a certificate that is asked for with some.
 fn is_check_with_waivers(words: &[&str]) -> bool
     ensures { result ≡ texts.is_check_with_waivers (map (λ w. w.now) words.now) }
 {
     match words {
-        [command, others @ ..] => *command == "check" && has_waive_option(others),
+        [command, others @ ..] => {
+            (*command == "check" || *command == "certify") && has_waive_option(others)
+        }
         [] => false,
     }
 }

@@ -20,6 +20,7 @@ pub mod MarkedLemmas
 pub mod NoObliqueSlots
 pub mod OpenFiles
 pub mod Passing
+pub mod Tolerances
 pub mod PiecesLemmas
 pub mod ReadingUniqueness
 pub mod ReportTextLemmas

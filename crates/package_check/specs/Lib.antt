@@ -7,6 +7,7 @@ pub mod Reports
 pub mod Soundness
 pub mod SoundnessAsRead
 pub mod Texts
+pub mod Tolerances
 pub mod Holding
 pub mod Judging
 pub mod HoleViews

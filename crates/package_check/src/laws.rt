@@ -6,6 +6,7 @@ ghost use Rattle.package_check.specs.Measures.{MeasuredPasses};
 ghost use Rattle.package_check.specs.Package.{FindingsNameTheirPlaces};
 ghost use Rattle.package_check.specs.Soundness.{HolesAreSaidOnce, PadsAreSaidOnce, PassingIsSound, SoundIsStraight};
 ghost use Rattle.package_check.specs.SoundnessAsRead.{PassingIsSoundAsRead, SoundAsReadIsSound};
+ghost use Rattle.package_check.specs.Tolerances.{SoundTolerates};
 ghost use Rattle.package_check.specs.WiderProfile.{ReadIsUncontradicted, WideAnswersByBoard, WideFindsNoMore};
 
 use board::laws::{gaps_pass, rings_pass};
@@ -45,6 +46,12 @@ pub fn passing_is_sound()
     passing_is_sound_as_read();
     sound_as_read_is_sound();
 }
+
+/// What is left of the ring and of the gap of a sound package where its holes are drilled off their places and wider than designed, each
+/// within a bound.
+pub fn sound_tolerates()
+    ensures { SoundTolerates }
+{}
 
 /// By the grammars of the formats a copper file says at most one list of pads, and a drill file at most one list of holes.
 pub fn files_say_once()

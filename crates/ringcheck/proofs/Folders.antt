@@ -1,5 +1,5 @@
 -- What a status says of a request, of a loader whose names are taken from a folder, and where no folder could be entered.
-use Rattle.ringcheck.proofs.Common.{Bool, true, false, ℕ, List, [], ◌∷◌, Option, Some, None, Result, Ok, Err, inl, inr, refl, GridRules, Reason, Profile, Status, Relation, Written, parse_check, parse_draw, parse_measure, profile_of, Checks, IsParsedCheckStatus, IsDrawStatus, IsParsedDrawStatus, PrintsPicture, IsParsedMeasureStatus, PrintsMeasure, measure_style, IsParsedReportStatus, IsWaivingReportStatus, IsExitOf, IsRequestStatus, word_bytes, ReportFormat}
+use Rattle.ringcheck.proofs.Common.{Bool, true, false, ℕ, List, [], ◌∷◌, Option, Some, None, Result, Ok, Err, inl, inr, refl, GridRules, Reason, Profile, AllByRecursion, Entry, Status, Relation, Written, parse_check, parse_draw, parse_measure, profile_of, Checks, IsParsedCheckStatus, IsDrawStatus, IsParsedDrawStatus, PrintsPicture, IsParsedMeasureStatus, PrintsMeasure, measure_style, IsParsedReportStatus, IsWaivingReportStatus, IsExitOf, IsRequestStatus, word_bytes, ReportFormat}
 use Rattle.command_line.specs.declared.Request.{Request}
 use Rattle.command_line.specs.declared.Request.TheVariants.{Check, Certify, Verify, Measure, Report, Draw, Show, Rewrite, Manifest, Explain}
 use Rattle.ringcheck_files.specs.declared.Status.TheVariants as status
@@ -8,7 +8,8 @@ use Rattle.ringcheck_files.specs.declared.file_jobs.FileJob.TheVariants as file_
 use Rattle.ringcheck_files.specs.FileStatus.{IsKindStatus, IsParsedFileStatus, parse_kind}
 use Rattle.ringcheck_files.specs.ManifestStatus.{HasAllLoaded, HasLoaded, IsExplainStatus, IsManifestStatus, LoadedView, bytes, folder, long, unread}
 use Rattle.ringcheck_files.specs.declared.rewrite.Kind.{Kind}
-use Rattle.ringcheck.specs.CertificateStatus.{Certifies, IsCertificateStatus, IsParsedCertificateStatus, IsVerified, IsVerifyStatus}
+use Rattle.print_json.specs.ReadCertificates.{CertifiedView}
+use Rattle.ringcheck.specs.CertificateStatus.{AreOther, Certifies, HasOther, IsCertificateStatus, IsOtherAt, IsParsedCertificateStatus, IsVerified, IsVerifyStatus, changed, made_anew, no_certificate, other_files, other_manifest}
 use Rattle.ringcheck.specs.ManifestStatus.{IsParsedManifestStatus}
 use Rattle.ringcheck.specs.Sentences.{measure_sentence, profile_sentence}
 use Rattle.ringcheck.specs.ShowStatus.{IsParsedShowStatus}
@@ -28,6 +29,14 @@ exit_weaker true P Q to status.Refused h = to status.Refused h
 exit_weaker true P Q to status.Usage h = to status.Usage h
 exit_weaker true P Q to status.Device h = to status.Device h
 
+module _ (later has : List ℕ → List ℕ → Type 0) (to : (n b : List ℕ) → later n b → has n b) where
+  other_along : (name : List ℕ) (digest : Option (List ℕ)) → HasOther later name digest → HasOther has name digest
+  other_along name digest (found, had, why) = (found, to name found had, why)
+
+  pub all_other_along : (digests : List (List ℕ)) (entries : List Entry) (numbers : List ℕ) → AllByRecursion (IsOtherAt later digests entries) numbers → AllByRecursion (IsOtherAt has digests entries) numbers
+  all_other_along digests entries [] h = tt
+  all_other_along digests entries (n ∷ ns) ((index, entry, is, at, other), h) = ((index, entry, is, at, other_along entry.file _ other), all_other_along digests entries ns h)
+
 module _ (later has : List ℕ → List ℕ → Type 0) (to : (n b : List ℕ) → later n b → has n b) (before after : Written) where
   check_along : (name : List ℕ) (parsed : Result GridRules Reason) (sentence : List ℕ) (s : Status) → IsParsedCheckStatus later name parsed sentence before after s → IsParsedCheckStatus has name parsed sentence before after s
   check_along name (Ok rules) sentence s h = says_along later has to rules.profile name (λ text entries. Checks rules before.0 after.0) style.Line before after s h
@@ -40,13 +49,18 @@ module _ (later has : List ℕ → List ℕ → Type 0) (to : (n b : List ℕ) �
   certify_along name (Ok rules) sentence s h = certified_along name rules None s h
   certify_along name (Err why) sentence s h = h
 
+  others_along : (it : CertifiedView) (numbers : List ℕ) → AreOther later it numbers → AreOther has it numbers
+  others_along it numbers (other_manifest other) = other_manifest (other_along later has to it.manifest _ other)
+  others_along it numbers (other_files entries (text, (had, short, reads)) some all) = other_files entries (text, (to it.manifest text had, short, reads)) some (all_other_along later has to it.digests entries some all)
+
   pub verified_along : (given : List ℕ) (s : Status) → IsVerified later given before after s → IsVerified has given before after s
-  verified_along given s (inl denied) = inl denied
-  verified_along given s (inr (rules, manifest, h)) = inr (rules, manifest, certified_along manifest rules (Some given) s h)
+  verified_along given s (no_certificate names denied) = no_certificate names denied
+  verified_along given s (changed it names first more others denied) = changed it names first more (others_along it (first ∷ more) others) denied
+  verified_along given s (made_anew it names h) = made_anew it names (certified_along it.manifest it.rules (Some given) s h)
 
   verify_along : (name : List ℕ) (s : Status) → IsVerifyStatus later name before after s → IsVerifyStatus has name before after s
   verify_along name s (inl device) = inl device
-  verify_along name s (inr (inl denied)) = inr (inl denied)
+  verify_along name s (inr (inl (found, had, above, denied))) = inr (inl (found, to name found had, above, denied))
   verify_along name s (inr (inr (given, held, h))) = inr (inr (given, to name given held, verified_along given s h))
 
   measure_along : (name : List ℕ) (parsed : Result MeasureOrder Reason) (sentence : List ℕ) (s : Status) → IsParsedMeasureStatus later name parsed sentence before after s → IsParsedMeasureStatus has name parsed sentence before after s

@@ -1,21 +1,24 @@
 //! Certificates of packages: one is made, or one that is given is verified.
 
-ghost use Rattle.std.specs.Prelude.{◌≡◌, ◌≤◌, ◌++◌, ◌∷◌, ⊤, [], List, ℕ, false, IfOk, map, option_map};
+ghost use Rattle.std.specs.Prelude.{◌≡◌, ◌≢◌, ◌≤◌, ◌<◌, ◌++◌, ◌∷◌, [], List, ℕ, true, false, length, Some, IfErr, IfOk, map, option_map, slice_get, string_bytes};
 ghost use Rattle.std.specs.Io.KnownBytes.{Appends};
-ghost use Rattle.std.specs.List.{zip};
+ghost use Rattle.std.specs.List.{AllByRecursion, zip};
+ghost use Rattle.hex.specs.Hex.{encode_lower};
 ghost use Rattle.sha2.specs.Sha256.{sha256};
 ghost use Rattle.grid_units.specs.Holes.{GridRules};
 ghost use Rattle.package_check.specs.Package.{FileView};
 ghost use Rattle.ringcheck_files.specs.Outcomes.{HasCause};
 ghost use Rattle.ringcheck_files.specs.Writers.{texts};
 ghost use Rattle.print_json.specs.Certificates.{certificate_of, certificate_value, digest_of};
+ghost use Rattle.print_json.specs.ReadCertificates.{certified_view};
 ghost use Rattle.print_json.specs.Values.{json_text};
 ghost use Rattle.command_line.specs.declared.commands.TheConstants.{PROGRAM};
-ghost use Rattle.ringcheck.specs.CertificateStatus.{Certifies, IsVerified, IsVerifyStatus, verdict_text};
-ghost use Rattle.ringcheck.specs.Inner.Certificates.{IsAfterLines};
+ghost use Rattle.ringcheck_files.specs.LoaderRelation.{file_limit};
+ghost use Rattle.ringcheck.specs.CertificateStatus.{AreOther, Certifies, HasOther, IsOtherAt, IsVerified, IsVerifyStatus, Names, verdict_text};
+ghost use Rattle.ringcheck.specs.Inner.Certificates.{ListsOthers};
 ghost use Rattle.ringcheck.specs.Inner.Loading.{IsCheckReport};
 
-use crate::digests::Digest;
+use crate::digests::{Digest, FileHasher};
 use crate::jobs::Job;
 use crate::load_package::load_table;
 use crate::packages::{Manifest, run_job};
@@ -24,7 +27,6 @@ use crate::{CheckText, Entry, LoadFault, Loader, Report};
 use command_line::PROGRAM;
 use print_json::{Certificate, Certified, FileDigest, read_certificate};
 use ringcheck_files::{FILE_LIMIT, Failure, Sink, Status, Streams, print_unread};
-use sha2::Sha256;
 use std::alloc::{AllocError, Global};
 use std::io::Write;
 
@@ -125,40 +127,70 @@ pub(crate) fn certify<'a, W: Write>(
     }
 }
 
-/// The digest of the bytes of a file, which is taken while they are loaded.
+/// A file that is loaded for its digest alone.
 #[derive(Drop)]
 struct DigestSink {
-    hasher: Sha256,
+    hasher: FileHasher,
 }
 
 impl Sink for DigestSink {
-    ghost has_taken = { λ start now text. ⊤ };
+    ghost use Rattle.ringcheck.specs.Inner.Digests.{HashesOn};
+
+    ghost has_taken = { λ start now text. HashesOn start.hasher now.hasher text };
 
     fn take(&mut self, piece: &[u8]) -> Result<(), AllocError> {
-        sha2::Digest::update(&mut self.hasher, piece);
+        self.hasher.take(piece);
         Ok(())
     }
 }
 
-/// Whether the file under a name has another digest than the one that is written in hexadecimal, as far as it can be loaded. Where it cannot be
-/// read it is left to the check to say so.
+/// The digest of the file under a name.
+fn load_digest<L: Loader>(alloc: Global, name: &str, loader: &mut L) -> Result<Digest, LoadFault>
+    ensures keeps { (n b : List ℕ) → L.has loader.new n b → L.has loader.old n b }
+    ensures counts { L.failed loader.old ≤ L.failed loader.new }
+    ensures digest { IfOk result (λ digest. (bytes : List ℕ) × L.has loader.old name.now bytes × (digest ≡ sha256 bytes)) }
+    ensures too_long { IfErr result (λ e. e ≡ LoadFault.TooLong → (bytes : List ℕ) × L.has loader.old name.now bytes × (file_limit < length bytes)) }
+{
+    let mut digests = [[0; 32]];
+    let mut sink = DigestSink {
+        hasher: FileHasher::of(&digests, 0),
+    };
+    loader.load_into(alloc, name, FILE_LIMIT, &mut sink)?;
+    sink.hasher.put(&mut digests, 0);
+    Ok(digests[0])
+}
+
+/// Whether the digest at an index of those that are written in hexadecimal is another than this one, or is not there.
+fn is_other(
+    alloc: Global,
+    written: &[String],
+    index: usize,
+    digest: Digest,
+) -> Result<bool, AllocError>
+    ensures { IfOk result (λ other. other ≡ true → slice_get (map string_bytes written.now) index ≢ Some (encode_lower digest)) }
+{
+    let found = hex::encode(alloc, digest)?;
+    Ok(match written.get(index) {
+        Some(written) => written.as_bytes() != found.as_bytes(),
+        None => true,
+    })
+}
+
+/// Whether the file under a name has another digest than the one at an index of those that are written in hexadecimal, as far as it can be
+/// loaded. Where it cannot be read it is left to the check to say so.
 fn differs<L: Loader>(
     alloc: Global,
     name: &str,
-    written: Option<&String>,
+    written: &[String],
+    index: usize,
     loader: &mut L,
 ) -> Result<bool, Failure>
     ensures keeps { (n b : List ℕ) → L.has loader.new n b → L.has loader.old n b }
     ensures counts { L.failed loader.old ≤ L.failed loader.new }
+    ensures other { IfOk result (λ other. other ≡ true → HasOther (L.has loader.old) name.now (slice_get (map string_bytes written.now) index)) }
 {
-    let mut sink = DigestSink {
-        hasher: sha2::Digest::new(),
-    };
-    match loader.load_into(alloc, name, FILE_LIMIT, &mut sink) {
-        Ok(()) => {
-            let found = hex::encode(alloc, sha2::Digest::finalize(sink.hasher))?;
-            Ok(written.is_none_or(|it| it.as_bytes() != found.as_bytes()))
-        }
+    match load_digest(alloc, name, loader) {
+        Ok(digest) => Ok(is_other(alloc, written, index, digest)?),
         Err(LoadFault::Device) => Ok(false),
         Err(LoadFault::Memory) => Err(Failure::Memory),
         Err(LoadFault::TooLong) => Ok(true),
@@ -175,11 +207,11 @@ fn print_differing_files<L: Loader, W: Write>(
 ) -> Result<bool, Failure>
     ensures keeps { (n b : List ℕ) → L.has loader.new n b → L.has loader.old n b }
     ensures counts { L.failed loader.old ≤ L.failed loader.new }
-    ensures lines { IfOk result (IsAfterLines (W.contents out.old) (W.contents out.new)) }
+    ensures lines { IfOk result (ListsOthers (AllByRecursion (IsOtherAt (L.has loader.old) (map string_bytes written.entry.now) entries.entry.now)) (W.contents out.old) (W.contents out.new)) }
 {
     let mut any = false;
     for (index, entry) in entries.iter().enumerate() {
-        if differs(alloc, entry.file.as_str(), written.get(index), loader)? {
+        if differs(alloc, entry.file.as_str(), written, index, loader)? {
             any = true;
             write!(out, "differs file={}\n", index as u128 + 1)?;
         }
@@ -196,10 +228,11 @@ fn print_differing<L: Loader, W: Write>(
 ) -> Result<bool, Failure>
     ensures keeps { (n b : List ℕ) → L.has loader.new n b → L.has loader.old n b }
     ensures counts { L.failed loader.old ≤ L.failed loader.new }
-    ensures lines { IfOk result (IsAfterLines (W.contents out.old) (W.contents out.new)) }
+    ensures lines { IfOk result (ListsOthers (AreOther (L.has loader.old) (certified_view certified.entry.now)) (W.contents out.old) (W.contents out.new)) }
 {
     let (manifest, written) = (certified.manifest.as_str(), certified.digests.as_slice());
-    if differs(alloc, manifest, written.last(), loader)? {
+    let last = written.len().saturating_sub(1);
+    if differs(alloc, manifest, written, last, loader)? {
         write!(out, "differs file={}\n", written.len())?;
         return Ok(true);
     }
@@ -211,7 +244,9 @@ fn print_differing<L: Loader, W: Write>(
 }
 
 /// What bytes name if they are a certificate.
-fn certified_in(alloc: Global, bytes: &[u8]) -> Result<Option<Certified>, AllocError> {
+fn certified_in(alloc: Global, bytes: &[u8]) -> Result<Option<Certified>, AllocError>
+    ensures { IfOk result (λ named. Names bytes.now (option_map certified_view named)) }
+{
     match str::from_utf8(bytes) {
         Ok(text) => read_certificate(alloc, text),
         Err(_) => Ok(None),
@@ -234,7 +269,7 @@ fn verify_text<L: Loader, W: Write, E: Write>(
     loader: &mut L,
     to: &mut Streams<W, E>,
 ) -> Result<Status, Failure>
-    ensures says { IfOk result (λ s. IsVerified (L.has loader.old) text.items (texts W.contents E.contents to.old) (texts W.contents E.contents to.new) s) }
+    ensures says { Names text.items (Some (certified_view certified.entry.now)) → IfOk result (IsVerified (L.has loader.old) text.items (texts W.contents E.contents to.old) (texts W.contents E.contents to.new)) }
     ensures cause { IfOk result (HasCause (L.failed loader.old) (L.failed loader.new)) }
 {
     if print_differing(alloc, certified, loader, &mut to.out)? {

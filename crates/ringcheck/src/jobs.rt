@@ -1,7 +1,7 @@
 //! What is done with the package of a manifest.
 
 ghost use Rattle.std.specs.Prelude.{◌≡◌};
-ghost use Rattle.ringcheck.specs.Inner.Jobs.{job_profile, job_style};
+ghost use Rattle.ringcheck.specs.Inner.Jobs.{board_keep, board_profile, board_style, job_profile, job_style};
 ghost use Rattle.ringcheck.specs.ReportStatus.{kept_for, report_style};
 
 use crate::parsed_words::{MeasureFormat, MeasureOrder, ReportFormat};
@@ -22,6 +22,17 @@ pub(crate) struct Order {
     pub(crate) waivers: Option<Vec<Waiver>>,
 }
 
+/// What is done with the board of a package.
+#[derive(Drop)]
+pub(crate) enum BoardJob {
+    /// It is measured, and the measure is printed.
+    Measure(MeasureOrder),
+    /// A report on its findings is printed.
+    Report(Order),
+    /// Its picture is printed: the files are read in this profile, and findings are drawn under these rules, if there are any.
+    Draw(Profile, Option<Rules>),
+}
+
 /// What is done with a package.
 #[derive(Drop)]
 pub(crate) enum Job {
@@ -29,12 +40,8 @@ pub(crate) enum Job {
     Check(Rules),
     /// It is checked under these rules, and its certificate is printed, or compared with this text, if there is one.
     Certify(Rules, Option<Vec<u8>>),
-    /// It is measured, and the measure is printed.
-    Measure(MeasureOrder),
-    /// A report on its findings is printed.
-    Report(Order),
-    /// Its picture is printed: the files are read in this profile, and findings are drawn under these rules, if there are any.
-    Draw(Profile, Option<Rules>),
+    /// It is read whole, as a board.
+    Board(BoardJob),
 }
 
 /// How a refusal is printed in place of a report in this format.
@@ -58,6 +65,44 @@ pub(crate) fn kept_for(format: ReportFormat) -> Keep
     }
 }
 
+impl BoardJob {
+    /// The profile in which the files of the board are read.
+    pub(crate) fn profile(&self) -> Profile
+        ensures { result ≡ board_profile self.now }
+    {
+        match self {
+            BoardJob::Measure(order) => order.profile,
+            BoardJob::Report(order) => order.rules.profile(),
+            BoardJob::Draw(profile, _) => *profile,
+        }
+    }
+
+    /// What is kept of the files of the board.
+    pub(crate) fn keep(&self) -> Keep
+        ensures { result ≡ board_keep self.now }
+    {
+        match self {
+            BoardJob::Measure(_) => Keep::Pads,
+            BoardJob::Report(order) => kept_for(order.format),
+            BoardJob::Draw(..) => Keep::RowsAndDrawn,
+        }
+    }
+
+    /// How a refusal is printed in its place.
+    fn style(&self) -> RefusalStyle
+        ensures { result ≡ board_style self.now }
+    {
+        match self {
+            BoardJob::Measure(order) => match order.format {
+                MeasureFormat::Text => RefusalStyle::Page,
+                MeasureFormat::Json => RefusalStyle::Json,
+            },
+            BoardJob::Report(order) => report_style(order.format),
+            BoardJob::Draw(..) => RefusalStyle::Line,
+        }
+    }
+}
+
 impl Job {
     /// The profile in which the package is read.
     pub(crate) fn profile(&self) -> Profile
@@ -65,9 +110,7 @@ impl Job {
     {
         match self {
             Job::Check(rules) | Job::Certify(rules, _) => rules.profile(),
-            Job::Measure(order) => order.profile,
-            Job::Report(options) => options.rules.profile(),
-            Job::Draw(profile, _) => *profile,
+            Job::Board(job) => job.profile(),
         }
     }
 
@@ -76,12 +119,8 @@ impl Job {
         ensures { result ≡ job_style self.now }
     {
         match self {
-            Job::Check(_) | Job::Certify(..) | Job::Draw(..) => RefusalStyle::Line,
-            Job::Measure(order) => match order.format {
-                MeasureFormat::Text => RefusalStyle::Page,
-                MeasureFormat::Json => RefusalStyle::Json,
-            },
-            Job::Report(options) => report_style(options.format),
+            Job::Check(_) | Job::Certify(..) => RefusalStyle::Line,
+            Job::Board(job) => job.style(),
         }
     }
 }

@@ -1,12 +1,15 @@
 //! The commands on the package of a manifest: each does a job on it, or prints why it cannot be done.
 
-ghost use Rattle.std.specs.Prelude.{◌≡◌, IfErr, IfOk, false, is_some, map, option_map};
+ghost use Rattle.std.specs.Prelude.{◌≡◌, IfErr, IfOk, List, false, is_some, map, option_map};
+ghost use Rattle.std.specs.List.{AllByRecursion};
 ghost use Rattle.sha2.specs.Sha256.{sha256};
+ghost use Rattle.package_check.specs.Package.{FileView};
 ghost use Rattle.ringcheck_files.specs.Words.{IsExplainedUsage};
 ghost use Rattle.ringcheck_files.specs.Outcomes.{HasCause, HasRisen};
 ghost use Rattle.ringcheck.specs.DrawStatus.{IsParsedDrawStatus};
 ghost use Rattle.ringcheck.specs.Inner.Halting.{OfFiles};
-ghost use Rattle.ringcheck.specs.Inner.Jobs.{Holds, SaysJob, given_text, job_profile};
+ghost use Rattle.ringcheck.specs.Inner.Jobs.{Holds, HoldsOfBoard, SaysJob, board_keep, board_profile, given_text, job_profile};
+ghost use Rattle.ringcheck.specs.Inner.Loading.{IsKeptBoard};
 ghost use Rattle.ringcheck.specs.MeasureStatus.{IsParsedMeasureStatus};
 ghost use Rattle.ringcheck.specs.ParsedWords as named;
 ghost use Rattle.ringcheck.specs.Outlining.{IsOutlinedStatus};
@@ -17,7 +20,7 @@ ghost use Rattle.ringcheck.specs.CheckStatus.{IsParsedCheckStatus, status_of};
 ghost use Rattle.ringcheck.specs.Sentences.{check_sentence, draw_sentence, is_for_people, measure_sentence, report_sentence};
 ghost use Rattle.ringcheck_files.specs.Writers.{texts};
 
-use crate::jobs::{Job, Order, kept_for, report_style};
+use crate::jobs::{BoardJob, Job, Order, report_style};
 use crate::load_package::{check_files, load_board, load_table};
 use crate::outlines::{load_outline, print_no_outline};
 use crate::parsed_words::{parse_check, parse_draw, parse_measure, parse_report};
@@ -26,7 +29,7 @@ use crate::sentences::{NoMeasure, NoPicture, NoReport, is_for_people, refuse};
 use crate::{Entry, Loader, certificates, checks, measures, reports};
 use command_line::{CheckWords, PictureWords, ReportWords};
 use grid_units::{Reason, Rules};
-use package_check::Keep;
+use package_check::Board;
 use pad_shapes::Drawn;
 use print_json::FileDigest;
 use ringcheck_files::{Failure, Status, Streams};
@@ -105,6 +108,51 @@ fn certify<'a, L: Loader, W: Write>(
     }
 }
 
+/// Does what is asked with the board of the files of these names, which the manifest under a name lists, with an outline of these parts, and
+/// returns whether it passes.
+fn print_board<W: Write>(
+    alloc: Global,
+    job: &BoardJob,
+    board: &Board,
+    names: &[&str],
+    manifest: &str,
+    outline: &[Drawn],
+    out: &mut W,
+) -> Result<bool, Failure>
+    ensures { (all : List FileView) → map (λ name. name.now) names.now ≡ map (λ source. source.name) all → AllByRecursion (λ source. source.setting.profile ≡ board_profile job.now) all
+        → IsKeptBoard (board_keep job.now) board.now all → IfOk result (λ passes. HoldsOfBoard job.now outline.now manifest.now (W.contents out.old) (W.contents out.new) passes all) }
+{
+    match job {
+        BoardJob::Measure(order) => measures::measure(alloc, board, names, *order, out),
+        BoardJob::Report(order) => {
+            reports::report(alloc, board, names, manifest, order, outline, out)
+        }
+        BoardJob::Draw(_, rules) => checks::draw(alloc, board, names, *rules, outline, out),
+    }
+}
+
+/// Reads the files of the entries of a manifest, which have these names, as a board, does what is asked with it, and returns whether it passes.
+fn answer_with_board<'a, L: Loader, W: Write>(
+    alloc: Global,
+    job: &BoardJob,
+    outline: &[Drawn],
+    names: &[&str],
+    manifest: Manifest<'a>,
+    loader: &mut L,
+    out: &mut W,
+) -> Result<Result<bool, Halt<'a>>, Failure>
+    ensures answers { map (λ name. name.now) names.now ≡ map (λ entry. entry.name) manifest.entry.entries.now → IfOk result (OfFiles (L.has loader.old) (board_profile job.now) manifest.entry.entries.now (HasRisen (L.failed loader.old) (L.failed loader.new)) (HoldsOfBoard job.now outline.now manifest.entry.name.now (W.contents out.old) (W.contents out.new))) }
+    ensures silent { IfOk result (λ done. IfErr done (λ h. W.contents out.new ≡ W.contents out.old)) }
+{
+    match load_board(alloc, job.profile(), job.keep(), loader, manifest.entries)? {
+        Ok(board) => {
+            let passes = print_board(alloc, job, &board, names, manifest.name, outline, out)?;
+            Ok(Ok(passes))
+        }
+        Err(halt) => Ok(Err(halt)),
+    }
+}
+
 /// Loads the files of the entries of a manifest, does a job on them with an outline of these parts, and returns whether it passes.
 fn answer<'a, L: Loader, W: Write>(
     alloc: Global,
@@ -129,28 +177,7 @@ fn answer<'a, L: Loader, W: Write>(
             let given = text_of(given);
             certify(alloc, *rules, given, names, manifest, loader, out)
         }
-        Job::Measure(order) => {
-            match load_board(alloc, order.profile, Keep::Pads, loader, entries)? {
-                Ok(board) => Ok(Ok(measures::measure(alloc, &board, names, *order, out)?)),
-                Err(halt) => Ok(Err(halt)),
-            }
-        }
-        Job::Report(order) => {
-            let keep = kept_for(order.format);
-            match load_board(alloc, order.rules.profile(), keep, loader, entries)? {
-                Ok(board) => {
-                    let name = manifest.name;
-                    Ok(Ok(reports::report(alloc, &board, names, name, order, outline, out)?))
-                }
-                Err(halt) => Ok(Err(halt)),
-            }
-        }
-        Job::Draw(profile, rules) => {
-            match load_board(alloc, *profile, Keep::RowsAndDrawn, loader, entries)? {
-                Ok(board) => Ok(Ok(checks::draw(alloc, &board, names, *rules, outline, out)?)),
-                Err(halt) => Ok(Err(halt)),
-            }
-        }
+        Job::Board(job) => answer_with_board(alloc, job, outline, names, manifest, loader, out),
     }
 }
 
@@ -272,7 +299,14 @@ pub(crate) fn measure<L: Loader, W: Write, E: Write>(
     ensures cause { IfOk result (HasCause (L.failed loader.old) (L.failed loader.new)) }
 {
     match parse_measure(profile, format) {
-        Ok(order) => run_job(alloc, &Job::Measure(order), &[], name, loader, to),
+        Ok(order) => run_job(
+            alloc,
+            &Job::Board(BoardJob::Measure(order)),
+            &[],
+            name,
+            loader,
+            to,
+        ),
         Err(reason) => refuse(to, true, reason, &NoMeasure { profile, format }),
     }
 }
@@ -291,7 +325,7 @@ pub(crate) fn draw<L: Loader, W: Write, E: Write>(
 {
     match parse_draw(unparsed) {
         Ok((profile, rules)) => {
-            let job = Job::Draw(profile, rules);
+            let job = Job::Board(BoardJob::Draw(profile, rules));
             run_outlined(alloc, &job, unparsed.outline, name, loader, to)
         }
         Err(reason) => {
@@ -313,14 +347,11 @@ pub(crate) fn report<L: Loader, W: Write, E: Write>(
     ensures says { IfOk result (IsParsedReportStatus (L.has loader.old) name.now (named.parse_report (word_bytes unparsed.now.profile) unparsed.now.ring.now unparsed.now.gap.now (word_bytes unparsed.now.limit) (word_bytes unparsed.now.waive) (word_bytes unparsed.now.outline) (word_bytes unparsed.now.format)) (is_for_people (word_bytes unparsed.now.format)) (report_sentence (word_bytes unparsed.now.profile) unparsed.now.ring.now unparsed.now.gap.now (word_bytes unparsed.now.limit) (is_some (word_bytes unparsed.now.outline)) (word_bytes unparsed.now.format)) (word_bytes unparsed.now.waive) (word_bytes unparsed.now.outline) (texts W.contents E.contents to.old) (texts W.contents E.contents to.new)) }
     ensures cause { IfOk result (HasCause (L.failed loader.old) (L.failed loader.new)) }
 {
+    let (below, outline) = (is_for_people(unparsed.format), unparsed.outline);
     let (rules, limit, format) = match parse_report(unparsed) {
         Ok(named) => named,
-        Err(reason) => {
-            let below = is_for_people(unparsed.format);
-            return refuse(to, below, reason, &NoReport(unparsed));
-        }
+        Err(reason) => return refuse(to, below, reason, &NoReport(unparsed)),
     };
-    let outline = unparsed.outline;
     match unparsed.waive {
         None => {
             let order = Order {
@@ -329,7 +360,8 @@ pub(crate) fn report<L: Loader, W: Write, E: Write>(
                 format,
                 waivers: None,
             };
-            run_outlined(alloc, &Job::Report(order), outline, name, loader, to)
+            let job = Job::Board(BoardJob::Report(order));
+            run_outlined(alloc, &job, outline, name, loader, to)
         }
         Some(file) => match load_table::<L, Waiver>(
             alloc,
@@ -345,7 +377,8 @@ pub(crate) fn report<L: Loader, W: Write, E: Write>(
                     format,
                     waivers: Some(table.rows),
                 };
-                run_outlined(alloc, &Job::Report(order), outline, name, loader, to)
+                let job = Job::Board(BoardJob::Report(order));
+                run_outlined(alloc, &job, outline, name, loader, to)
             }
             Err(no_table) => print_no_table(to, report_style(format), &no_table, loader),
         },

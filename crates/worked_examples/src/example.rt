@@ -305,12 +305,13 @@ fn escaped(byte: u8) -> u8 {
     match byte {
         b'n' => b'\n',
         b't' => b'\t',
+        b'r' => b'\r',
         b's' => b' ',
         other => other,
     }
 }
 
-/// The bytes of a text in which `\n`, `\t` and `\s` stand for a line feed, a tab and a space.
+/// The bytes of a text in which `\n`, `\t`, `\r` and `\s` stand for a line feed, a tab, a carriage return and a space.
 fn unescaped(alloc: Global, text: &str) -> Result<Vec<u8>, AllocError> {
     let mut bytes = Vec::new(alloc);
     let mut is_escape = false;

@@ -1,6 +1,6 @@
-use Rattle.ringcheck.proofs.Common.{◌∙◌, ap, arith, refl, sym, slice_get_read, HasTakenHashed, is_kind_of}
+use Rattle.ringcheck.proofs.Common.{◌≡◌, ◌∙◌, ap, arith, length, refl, subst, sym, slice_get_read, HasTakenHashed, LoadsKind, is_kind_of}
 use Rattle.package_check.specs.Holding.{setting_of}
-use Rattle.ringcheck.proofs.LoadedFiles.{kind_passed, none_yet, reader_loaded}
+use Rattle.ringcheck.proofs.LoadedFiles.{halts_since, kind_passed, none_yet, reader_loaded}
 use Rattle.ringcheck.proofs.load_package.take_kind.Goals as goal
 use Rattle.ringcheck.proofs.load_package.take_kind.Goals.{then-is_kind+in_ok-halt+in_default, else-is_kind}
 
@@ -47,3 +47,39 @@ loop-index-preserved g c =
                 (kind_passed has profile all copper (HasTakenHashed c.loop-index.reader keep c.loop-index.digests) done k entry (first k entry here) kind (inv.loaded profile all keep done first read_in new h));
           }
     ]
+
+pub returns : goal.returns
+returns g c =
+    let inv = c.loop-index.invariant in
+    let has = g.L.Loader.has c.args.loader.now in
+    let size : c.loop-index.index ≡ length c.args.entries.now = omega (arith, c.loop-index-test.false, c.loop-index.auto.index-end) in
+    record {
+      keeps = inv.keeps;
+      counts = inv.counted;
+      setting = inv.setting;
+      within = omega arith;
+      ends = refl;
+      loaded = subst (LoadsKind has c.args.entries.now c.args.reader.now c.loop-index.reader c.args.digests.now c.loop-index.digests c.args.copper) size inv.loaded;
+    }
+
+pub returns-in-Some : goal.returns-in-Some
+returns-in-Some g c =
+    let inv = c.loop-index.invariant in
+    let one = c.in_ok-halt.ensures in
+    let has = g.L.Loader.has in
+    let failed = g.L.Loader.failed in
+    let k = c.loop-index.index in
+    let entry = c.index-entries-index.result in
+    let (halts, same, same') = rw c.in-Some.is at one.taken in
+    record {
+      keeps = λ n b. (λ h. (inv.keeps n b).0 ((one.keeps n b).0 h), λ h. (one.keeps n b).1 ((inv.keeps n b).1 h));
+      counts = omega (arith, one.counts, inv.counted);
+      setting = one.setting ∙ inv.setting;
+      within = omega (arith, c.loop-index-test.true);
+      ends = (
+        entry,
+        slice_get_read c.args.entries.now _ k entry refl c.loop-index-test.true c.index-entries-index.is,
+        halts_since (has c.loop-index.loader) (has c.args.loader.now) (λ n b. (inv.keeps n b).0) k entry (failed c.args.loader.now) (failed c.loop-index.loader) (failed c.take_file.new.loader) inv.counted c.in-Some.halt halts,
+      );
+      loaded = rw (same, same') inv.loaded;
+    }
