@@ -26,8 +26,7 @@ module _ {S : Type 0} (covers : S → GridPoint → ℕ → Bool) where
     each = λ k h.
         let size = all.size in
         let is : get_or (map has_no_best_pad bests) k false ≡ has_no_best_pad (get_or bests k None) = get_or-map has_no_best_pad bests k None false (omega (arith, h, size)) in
-        let tells = told pads (hole_at holes k) (get_or bests k None) (all.each k h) in
-        (λ e. tells.0 (sym is ∙ e), λ bare. is ∙ tells.1 bare);
+        let tells = told pads (hole_at holes k) (get_or bests k None) (all.each k h) in (λ e. tells.0 (sym is ∙ e), λ bare. is ∙ tells.1 bare);
   }
 
   -- holes that one pad covers at both ends are not bare
@@ -45,6 +44,5 @@ pub none_more : {S : Type 0} (covers : S → GridPoint → ℕ → Bool) (pads :
 none_more covers pads count pad zone is none next s k h = elim (cases_lt k count) [
   | inl less ↦ none s k less
   | inr more ↦
-      let last : k ≡ count = omega (arith, h, more) in
-      subst (λ x. CoversNone covers x 0 zone) (sym (ap (λ (n : ℕ). get_or pads n s) last ∙ is s)) next
+      let last : k ≡ count = omega (arith, h, more) in subst (λ x. CoversNone covers x 0 zone) (sym (ap (λ (n : ℕ). get_or pads n s) last ∙ is s)) next
 ]

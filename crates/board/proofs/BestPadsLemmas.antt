@@ -43,8 +43,7 @@ depth_is (negsuc n) m a e low high = absurd (omega (arith, ints, low))
 pub contains_more : (xs : List ℕ) (x k : ℕ) → Contains xs k → Contains (xs ++ x ∷ []) k
 contains_more xs x k was =
     let longer = length-append xs (x ∷ []) in
-    let inside = was.1 in
-    (was.0, omega (arith, longer, inside), get_or_append_left xs (x ∷ []) k was.0 was.1 ∙ was.2)
+    let inside = was.1 in (was.0, omega (arith, longer, inside), get_or_append_left xs (x ∷ []) k was.0 was.1 ∙ was.2)
 
 pub contains_last : (xs : List ℕ) (x : ℕ) → Contains (xs ++ x ∷ []) x
 contains_last xs x = (length xs, (let longer = length-append xs (x ∷ []) in omega (arith, longer)), get_or_push xs x x (length xs) refl)
@@ -55,10 +54,7 @@ module _ {S : Type 0} (covers : S → GridPoint → ℕ → Bool) (pads : List S
   improves_none h best = record { more = λ place. omega arith; held = λ was. was }
 
   pub improves_twice : (h : GridHole) (a b c : Option BestPad) → Improves covers pads h a b → Improves covers pads h b c → Improves covers pads h a c
-  improves_twice h a b c first second = record {
-    more = λ place. (let f = first.more place in let s = second.more place in omega (arith, f, s));
-    held = λ was. second.held (first.held was);
-  }
+  improves_twice h a b c first second = record { more = λ place. (let f = first.more place in let s = second.more place in omega (arith, f, s)); held = λ was. second.held (first.held was) }
 
   -- a shape that was no better is no better now
   pub still_no_better : (place : ℕ) (h : GridHole) (a b : Option BestPad) → Improves covers pads h a b → IsNoBetter covers pads place h a → IsNoBetter covers pads place h b

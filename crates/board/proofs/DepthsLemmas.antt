@@ -8,12 +8,10 @@ pub round_depth : (radius far root n : ℕ) → ((t : ℕ) → (far ≤ square t
 round_depth radius far root n exact = (
   λ e.
       let t = both_le n radius far (square (radius - n)) e in
-      let u : root ≤ radius - n = (exact (radius - n)).0 t.1 in
-      omega (arith, ints, t.0, u),
+      let u : root ≤ radius - n = (exact (radius - n)).0 t.1 in omega (arith, ints, t.0, u),
   λ h.
       let u : root ≤ radius - n = omega (arith, ints) in
-      let s : n ≤ radius = omega (arith, ints) in
-      le_both n radius far (square (radius - n)) s ((exact (radius - n)).1 u),
+      let s : n ≤ radius = omega (arith, ints) in le_both n radius far (square (radius - n)) s ((exact (radius - n)).1 u),
 )
 
 -- within a rectangle: a point is covered up to the lesser distance from a side
@@ -32,9 +30,7 @@ lesser_depth a b x y n p q = (
 
 -- a root that is rounded up, by equal numbers
 root_of : (dx dy a b root : ℕ) → dx ≡ a → dy ≡ b → ((t : ℕ) → (square dx + square dy ≤ square t) ↔ (root ≤ t)) → (t : ℕ) → (square a + square b ≤ square t) ↔ (root ≤ t)
-root_of dx dy a b root x y exact =
-    subst (λ (k : ℕ). (t : ℕ) → (square a + square k ≤ square t) ↔ (root ≤ t)) y
-    (subst (λ (k : ℕ). (t : ℕ) → (square k + square dy ≤ square t) ↔ (root ≤ t)) x exact)
+root_of dx dy a b root x y exact = subst (λ (k : ℕ). (t : ℕ) → (square a + square k ≤ square t) ↔ (root ≤ t)) y (subst (λ (k : ℕ). (t : ℕ) → (square k + square dy ≤ square t) ↔ (root ≤ t)) x exact)
 
 pub disc_depth : (d : GridDisc) (p : GridPoint) (radius dx dy root : ℕ) → radius ≡ d.radius → dx ≡ abs_diff p.x d.centre.x → dy ≡ abs_diff p.y d.centre.y
     → ((t : ℕ) → (square dx + square dy ≤ square t) ↔ (root ≤ t)) → IsDepth disc_covers d p (pos radius -ℤ pos root)
@@ -54,8 +50,7 @@ round_hole covers pad h depth same is reach = (
   λ e. (is reach).0 (both_true (covers pad h.from reach) (covers pad h.to reach) e).0,
   λ l.
       let first : covers pad h.from reach ≡ true = (is reach).1 l in
-      let second : covers pad h.to reach ≡ true = subst (λ (p : GridPoint). covers pad p reach ≡ true) same first in
-      rw (first, second) refl,
+      let second : covers pad h.to reach ≡ true = subst (λ (p : GridPoint). covers pad p reach ≡ true) same first in rw (first, second) refl,
 )
 
 -- a rounded polygon: the greatest reach, as the code answers it

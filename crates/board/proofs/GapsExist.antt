@@ -36,9 +36,7 @@ root (suc n) =
 
 -- any two holes have a gap
 pub gap_of : (a b : GridHole) → (gap : ℤ) × IsGap a b gap
-gap_of a b =
-    let w = root (square_of_cores a b) in
-    (pos w.0 -ℤ pos (a.radius + b.radius), λ t. gap_exact (a.radius + b.radius) (square_of_cores a b) w.0 t (w.1 t))
+gap_of a b = let w = root (square_of_cores a b) in (pos w.0 -ℤ pos (a.radius + b.radius), λ t. gap_exact (a.radius + b.radius) (square_of_cores a b) w.0 t (w.1 t))
 
 -- the gap of the nearest holes is the least
 pub nearest_least : (holes : List Drilled) (pair : Nearest) → IsNearest holes (IsPair holes) pair → HasLeast (IsPair holes) (HasGap holes) pair.gap
@@ -48,6 +46,5 @@ nearest_least holes pair so = record {
   there = so.there;
   reached = so.gap;
   least = λ k l required.
-      let w = gap_of (hole_at holes k) (hole_at holes l) in
-      (w.0, w.1, (so.least k l w.0 required w.1).by_gap);
+      let w = gap_of (hole_at holes k) (hole_at holes l) in (w.0, w.1, (so.least k l w.0 required w.1).by_gap);
 }

@@ -17,9 +17,7 @@ gap_same radii far root gap exact = (
 
 -- a root that is rounded down, by equal numbers
 pub root_of : (dx dy a b root : ℕ) → dx ≡ a → dy ≡ b → ((t : ℕ) → (square t ≤ square dx + square dy) ↔ (t ≤ root)) → (t : ℕ) → (square t ≤ square a + square b) ↔ (t ≤ root)
-root_of dx dy a b root x y exact =
-    subst (λ (k : ℕ). (t : ℕ) → (square t ≤ square a + square k) ↔ (t ≤ root)) y
-    (subst (λ (k : ℕ). (t : ℕ) → (square t ≤ square k + square dy) ↔ (t ≤ root)) x exact)
+root_of dx dy a b root x y exact = subst (λ (k : ℕ). (t : ℕ) → (square t ≤ square a + square k) ↔ (t ≤ root)) y (subst (λ (k : ℕ). (t : ℕ) → (square t ≤ square k + square dy) ↔ (t ≤ root)) x exact)
 
 -- a gap of two holes is at least minus both radii
 pub gap_of_none : (a b : GridHole) (z g : ℤ) → (z +ℤ pos (a.radius + b.radius)) ≤ℤ pos 0 → IsGap a b g → z ≤ℤ g
@@ -29,5 +27,4 @@ gap_of_none a b z g none gap = let low : pos 0 ≤ℤ (g +ℤ pos (a.radius + b.
 pub gap_of_far : (a b : GridHole) (z g : ℤ) (n : ℕ) → pos n ≡ z +ℤ pos (a.radius + b.radius) → nat_le (square n) (square_of_cores a b) ≡ true → IsGap a b g → z ≤ℤ g
 gap_of_far a b z g n is test gap =
     let far : square n ≤ square_of_cores a b = grind (arith, nat_tests) in
-    let low : pos n ≤ℤ (g +ℤ pos (a.radius + b.radius)) = (gap n).0 far in
-    omega (arith, ints, low, is)
+    let low : pos n ≤ℤ (g +ℤ pos (a.radius + b.radius)) = (gap n).0 far in omega (arith, ints, low, is)

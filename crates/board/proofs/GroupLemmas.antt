@@ -24,18 +24,12 @@ module _ {S : Type 0} (covers : S → GridPoint → ℕ → Bool) (pads : List S
   pub in_wider : (place first next : ℕ) (hull outer : Option Hull) → next ≤ first → IfSome outer (λ o. IsSomeAnd hull (IsWiderThan o)) → IsInGroup covers pads place first hull → IsInGroup covers pads place next outer
   in_wider place first next hull None low wide was = record { late = (let l = was.late in omega (arith, l, low)); within = tt }
   in_wider place first next None (Some outer) low wide was = absurd wide
-  in_wider place first next (Some inner) (Some outer) low wide was = record {
-    late = (let l = was.late in omega (arith, l, low));
-    within = λ s c reach e. wide c reach (was.within s c reach e);
-  }
+  in_wider place first next (Some inner) (Some outer) low wide was = record { late = (let l = was.late in omega (arith, l, low)); within = λ s c reach e. wide c reach (was.within s c reach e) }
 
   -- the pad that was added
   pub in_added : (place next : ℕ) (pad : S) (outer : Option Hull) → next ≤ place → ((s : S) → get_or pads place s ≡ pad) → IfSome outer (IsHullOf covers pad) → IsInGroup covers pads place next outer
   in_added place next pad None low is of_pad = record { late = low; within = tt }
-  in_added place next pad (Some outer) low is of_pad = record {
-    late = low;
-    within = λ s c reach e. of_pad c reach (ap (λ (p : S). covers p c reach) (sym (is s)) ∙ e);
-  }
+  in_added place next pad (Some outer) low is of_pad = record { late = low; within = λ s c reach e. of_pad c reach (ap (λ (p : S). covers p c reach) (sym (is s)) ∙ e) }
 
   module _ (order : List ℕ) (h : GridHole) where
     pub none_yet : (start : ℕ) (best : Option BestPad) → AreNoBetter covers pads order start start h best

@@ -93,13 +93,7 @@ moved outer inner dx dy way is_x is_y long half_x half_y radius axis_x axis_y de
     let steps = two_steps-le (abs_diff c.x inner.centre.x - inner.axis_x) (abs_diff c.y inner.centre.y - inner.axis_y) dx dy (abs_diff c.x outer.centre.x - outer.axis_x) (abs_diff c.y outer.centre.y - outer.axis_y) (inner.radius - reach) way
     (omega (arith, far_x, axis_x)) (omega (arith, far_y, axis_y)) was.round long in
     let room = square-le ((inner.radius - reach) + way) (outer.radius - reach) (omega (arith, radius, r)) in
-    record {
-      depth = omega (arith, d, depth);
-      x = omega (arith, x, half_x, far_x);
-      y = omega (arith, y, half_y, far_y);
-      radius = omega (arith, r, radius);
-      round = omega (arith, steps, room);
-    }
+    record { depth = omega (arith, d, depth); x = omega (arith, x, half_x, far_x); y = omega (arith, y, half_y, far_y); radius = omega (arith, r, radius); round = omega (arith, steps, room) }
 
 -- what lies so deep in a hull lies less deep in it
 pub less_deep : (hull : Hull) (c : GridPoint) (less reach : ℕ) → less ≤ reach → IsDeepIn hull c reach → IsDeepIn hull c less

@@ -20,10 +20,7 @@ module _ (required : ℕ → ℕ → Type 0) (has : ℕ → ℕ → Option ℤ �
     j = so.j;
     there = inl so.there;
     reached = so.reached;
-    least = λ k l choice. elim choice [
-      | inl before ↦ so.least k l before
-      | inr new ↦ (r, at_pair k l (Some r) new.0 new.1 h, le)
-    ];
+    least = λ k l choice. elim choice [ inl before ↦ so.least k l before | inr new ↦ (r, at_pair k l (Some r) new.0 new.1 h, le) ];
   }
 
   new_least : (r : ℤ) → ((k l : ℕ) → required k l → (other : ℤ) × has k l (Some other) × (r ≤ℤ other)) → has a b (Some r) → HasLeast (Or required a b) has r
@@ -32,15 +29,11 @@ module _ (required : ℕ → ℕ → Type 0) (has : ℕ → ℕ → Option ℤ �
     j = b;
     there = inr (refl, refl);
     reached = h;
-    least = λ k l choice. elim choice [
-      | inl before ↦ so k l before
-      | inr new ↦ (r, at_pair k l (Some r) new.0 new.1 h, omega (arith, ints))
-    ];
+    least = λ k l choice. elim choice [ inl before ↦ so k l before | inr new ↦ (r, at_pair k l (Some r) new.0 new.1 h, omega (arith, ints)) ];
   }
 
   lesser_least : (m r : ℤ) → HasLeast required has m → has a b (Some r) → HasLeast (Or required a b) has (int_min m r)
-  lesser_least m r so h = by_order m r
-      (λ le. subst (HasLeast (Or required a b) has) (let e : m ≡ int_min m r = omega (arith, ints, clamps, le) in e) (old_least m r so h le))
+  lesser_least m r so h = by_order m r (λ le. subst (HasLeast (Or required a b) has) (let e : m ≡ int_min m r = omega (arith, ints, clamps, le) in e) (old_least m r so h le))
       (λ ge. subst (HasLeast (Or required a b) has) (let e : r ≡ int_min m r = omega (arith, ints, clamps, ge) in e)
       (new_least r (λ k l before. let w = so.least k l before in (w.0, w.1, (let q : m ≤ℤ w.0 = w.2 in omega (arith, ints, ge, q)))) h))
 
@@ -50,10 +43,7 @@ module _ (required : ℕ → ℕ → Type 0) (has : ℕ → ℕ → Option ℤ �
     j = so.j;
     there = inl so.there;
     reached = so.reached;
-    least = λ k l choice. elim choice [
-      | inl before ↦ so.least k l before
-      | inr new ↦ inl (at_pair k l None new.0 new.1 h)
-    ];
+    least = λ k l choice. elim choice [ inl before ↦ so.least k l before | inr new ↦ inl (at_pair k l None new.0 new.1 h) ];
   }
 
   held_old : (m r : ℤ) → HasLeastInPads required has m → has a b (Some r) → m ≤ℤ r → HasLeastInPads (Or required a b) has m
@@ -62,10 +52,7 @@ module _ (required : ℕ → ℕ → Type 0) (has : ℕ → ℕ → Option ℤ �
     j = so.j;
     there = inl so.there;
     reached = so.reached;
-    least = λ k l choice. elim choice [
-      | inl before ↦ so.least k l before
-      | inr new ↦ inr (r, at_pair k l (Some r) new.0 new.1 h, le)
-    ];
+    least = λ k l choice. elim choice [ inl before ↦ so.least k l before | inr new ↦ inr (r, at_pair k l (Some r) new.0 new.1 h, le) ];
   }
 
   held_new : (r : ℤ) → ((k l : ℕ) → required k l → has k l None ⊎ ((other : ℤ) × has k l (Some other) × (r ≤ℤ other))) → has a b (Some r) → HasLeastInPads (Or required a b) has r
@@ -74,31 +61,18 @@ module _ (required : ℕ → ℕ → Type 0) (has : ℕ → ℕ → Option ℤ �
     j = b;
     there = inr (refl, refl);
     reached = h;
-    least = λ k l choice. elim choice [
-      | inl before ↦ so k l before
-      | inr new ↦ inr (r, at_pair k l (Some r) new.0 new.1 h, omega (arith, ints))
-    ];
+    least = λ k l choice. elim choice [ inl before ↦ so k l before | inr new ↦ inr (r, at_pair k l (Some r) new.0 new.1 h, omega (arith, ints)) ];
   }
 
   held_lesser : (m r : ℤ) → HasLeastInPads required has m → has a b (Some r) → HasLeastInPads (Or required a b) has (int_min m r)
-  held_lesser m r so h = by_order m r
-      (λ le. subst (HasLeastInPads (Or required a b) has) (let e : m ≡ int_min m r = omega (arith, ints, clamps, le) in e) (held_old m r so h le))
-      (λ ge. subst (HasLeastInPads (Or required a b) has) (let e : r ≡ int_min m r = omega (arith, ints, clamps, ge) in e)
-      (held_new r (λ k l before. elim (so.least k l before) [
+  held_lesser m r so h = by_order m r (λ le. subst (HasLeastInPads (Or required a b) has) (let e : m ≡ int_min m r = omega (arith, ints, clamps, le) in e) (held_old m r so h le))
+      (λ ge. subst (HasLeastInPads (Or required a b) has) (let e : r ≡ int_min m r = omega (arith, ints, clamps, ge) in e) (held_new r (λ k l before. elim (so.least k l before) [
         | inl none ↦ inl none
         | inr w ↦ inr (w.0, w.1, (let q : m ≤ℤ w.0 = w.2 in omega (arith, ints, ge, q)))
       ]) h))
 
   all_lack : ((k l : ℕ) → required k l → has k l None) → has a b None → LacksAll (Or required a b) has
-  all_lack so h = record {
-    i = a;
-    j = b;
-    there = inr (refl, refl);
-    nothing = λ k l choice. elim choice [
-      | inl before ↦ so k l before
-      | inr new ↦ at_pair k l None new.0 new.1 h
-    ];
-  }
+  all_lack so h = record { i = a; j = b; there = inr (refl, refl); nothing = λ k l choice. elim choice [ inl before ↦ so k l before | inr new ↦ at_pair k l None new.0 new.1 h ] }
 
   one_more_in_pads : (met : Met) (r : Option ℤ) → IsLeastInPads required has met → has a b r → IsLeastInPads (Or required a b) has (with_length_in_pads met r)
   one_more_in_pads mets.Any None so h = all_lack (λ k l before. absurd (so k l before)) h
@@ -132,8 +106,7 @@ same_both p q has to from met so = record { ring = same_required p q has to from
 pub hole_needs_ring : (required : ℕ → ℕ → Type 0) (has : ℕ → ℕ → Option ℤ → Type 0) (at count : ℕ) (holes : List Drilled) (met next : RingsMet) (r : Option ℤ) → count < length holes → needs_ring at (get_or holes count default_hole) ≡ true
     → has at count r → next.ring ≡ with_length met.ring r → next.in_pads ≡ with_length_in_pads met.in_pads r → AreLeast (λ i j. required i j ⊎ NeedsRingOn at count holes i j) has met → AreLeast (λ i j. required i j ⊎ NeedsRingOn at (count + 1) holes i j) has next
 hole_needs_ring required has at count holes met next r inside needs h ring held so =
-    same_both (Or (λ i j. required i j ⊎ NeedsRingOn at count holes i j) at count) (λ i j. required i j ⊎ NeedsRingOn at (count + 1) holes i j) has
-    (λ i j choice. elim choice [
+    same_both (Or (λ i j. required i j ⊎ NeedsRingOn at count holes i j) at count) (λ i j. required i j ⊎ NeedsRingOn at (count + 1) holes i j) has (λ i j choice. elim choice [
       | inl before ↦ elim before [
         | inl earlier ↦ inl earlier
         | inr here ↦ inr (record { here = here.here; below = (let l : j < count = here.below in omega (arith, l)); in_holes = here.in_holes; needs = here.needs })
@@ -144,16 +117,14 @@ hole_needs_ring required has at count holes met next r inside needs h ring held 
         in_holes = (let y : j ≡ count = new.1 in omega (arith, y, inside));
         needs = ap (λ (n : ℕ). needs_ring at (get_or holes n default_hole)) new.1 ∙ needs;
       })
-    ])
-    (λ i j choice. elim choice [
+    ]) (λ i j choice. elim choice [
       | inl earlier ↦ inl (inl earlier)
       | inr here ↦ elim (cases_lt j count) [
         | inl less ↦ inl (inr (record { here = here.here; below = less; in_holes = here.in_holes; needs = here.needs }))
         | inr more ↦ inr (here.here, (let l : j < count + 1 = here.below in omega (arith, l, more)))
       ]
     ])
-    next
-    (record {
+    next (record {
       ring = subst (IsLeast (Or (λ i j. required i j ⊎ NeedsRingOn at count holes i j) at count) has) (sym ring) (one_more (λ i j. required i j ⊎ NeedsRingOn at count holes i j) has at count met.ring r so.ring h);
       held = subst (IsLeastInPads (Or (λ i j. required i j ⊎ NeedsRingOn at count holes i j) at count) has) (sym held) (one_more_in_pads (λ i j. required i j ⊎ NeedsRingOn at count holes i j) has at count met.in_pads r so.held h);
     })
@@ -162,12 +133,10 @@ hole_needs_ring required has at count holes met next r inside needs h ring held 
 pub hole_needs_none : (required : ℕ → ℕ → Type 0) (has : ℕ → ℕ → Option ℤ → Type 0) (at count : ℕ) (holes : List Drilled) (met : RingsMet) → needs_ring at (get_or holes count default_hole) ≡ false
     → AreLeast (λ i j. required i j ⊎ NeedsRingOn at count holes i j) has met → AreLeast (λ i j. required i j ⊎ NeedsRingOn at (count + 1) holes i j) has met
 hole_needs_none required has at count holes met none so =
-    same_both (λ i j. required i j ⊎ NeedsRingOn at count holes i j) (λ i j. required i j ⊎ NeedsRingOn at (count + 1) holes i j) has
-    (λ i j choice. elim choice [
+    same_both (λ i j. required i j ⊎ NeedsRingOn at count holes i j) (λ i j. required i j ⊎ NeedsRingOn at (count + 1) holes i j) has (λ i j choice. elim choice [
       | inl earlier ↦ inl earlier
       | inr here ↦ inr (record { here = here.here; below = (let l : j < count = here.below in omega (arith, l)); in_holes = here.in_holes; needs = here.needs })
-    ])
-    (λ i j choice. elim choice [
+    ]) (λ i j choice. elim choice [
       | inl earlier ↦ inl earlier
       | inr here ↦ elim (cases_lt j count) [
         | inl less ↦ inr (record { here = here.here; below = less; in_holes = here.in_holes; needs = here.needs })
@@ -181,24 +150,21 @@ hole_needs_none required has at count holes met none so =
 -- no hole was asked yet
 pub no_hole : (required : ℕ → ℕ → Type 0) (has : ℕ → ℕ → Option ℤ → Type 0) (at : ℕ) (holes : List Drilled) (met : RingsMet) → AreLeast required has met → AreLeast (λ i j. required i j ⊎ NeedsRingOn at 0 holes i j) has met
 no_hole required has at holes met so =
-    same_both required (λ i j. required i j ⊎ NeedsRingOn at 0 holes i j) has
-    (λ i j h. inl h)
+    same_both required (λ i j. required i j ⊎ NeedsRingOn at 0 holes i j) has (λ i j h. inl h)
     (λ i j choice. elim choice [ inl earlier ↦ earlier | inr here ↦ absurd (let l : j < 0 = here.below in omega (arith, l)) ])
     met so
 
 -- one more layer
 pub layer_needs_rings : (has : ℕ → ℕ → Option ℤ → Type 0) (count : ℕ) (holes : List Drilled) (met : RingsMet) → AreLeast (λ i j. NeedsRing count holes i j ⊎ NeedsRingOn count (length holes) holes i j) has met → AreLeast (NeedsRing (count + 1) holes) has met
 layer_needs_rings has count holes met so =
-    same_both (λ i j. NeedsRing count holes i j ⊎ NeedsRingOn count (length holes) holes i j) (NeedsRing (count + 1) holes) has
-    (λ i j choice. elim choice [
+    same_both (λ i j. NeedsRing count holes i j ⊎ NeedsRingOn count (length holes) holes i j) (NeedsRing (count + 1) holes) has (λ i j choice. elim choice [
       | inl earlier ↦ record { in_layers = (let l : i < count = earlier.in_layers in omega (arith, l)); in_holes = earlier.in_holes; needs = earlier.needs }
       | inr here ↦ record {
         in_layers = (let x : i ≡ count = here.here in omega (arith, x));
         in_holes = here.in_holes;
         needs = ap (λ (n : ℕ). needs_ring n (get_or holes j default_hole)) here.here ∙ here.needs;
       }
-    ])
-    (λ i j h. elim (cases_lt i count) [
+    ]) (λ i j h. elim (cases_lt i count) [
       | inl less ↦ inl (record { in_layers = less; in_holes = h.in_holes; needs = h.needs })
       | inr more ↦
           let is : i ≡ count = (let l : i < count + 1 = h.in_layers in omega (arith, l, more)) in

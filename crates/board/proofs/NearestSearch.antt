@@ -91,8 +91,7 @@ module _ (holes : List Drilled) (count place : ℕ) (below : ℤ) (zone : Zone) 
     seen = λ o g less size of under.
         let inside : o < length (take count holes) = (let e = length-take-le count holes fits in omega (arith, less, e)) in
         let same : get_or (take count holes) o default_hole ≡ get_or holes o default_hole = get_or-take count holes o default_hole less in
-        let z : IsInZone zone (hole_at holes o).from =
-        zoned (hole_at holes o) (subst (λ (d : Drilled). IsWithinLimits limits d.hole) same (limited o inside)) size
+        let z : IsInZone zone (hole_at holes o).from = zoned (hole_at holes o) (subst (λ (d : Drilled). IsWithinLimits limits d.hole) same (limited o inside)) size
         (near_of_gap (hole_at holes o) (hole_at holes place) g below (gap_at holes place o g of) under) in
         let among = found o inside (subst (λ (d : Drilled). IsInZone zone d.hole.from) (sym same) z) in
         let is : get_or near among.0 0 ≡ o = get_or_default near among.0 0 o among.1 ∙ among.2 in

@@ -22,10 +22,7 @@ module _ (profile : Profile) (bests : List (Option BestPad)) (holes : List Drill
   next_ring j is = ap (λ (n : ℕ). ring_at profile bests holes (get_or chosen n 0)) is ∙ (ap (ring_at profile bests holes) here ∙ has)
 
   none_more : IsLeastRingOf profile bests holes chosen count None → ring ≡ None → IsLeastRingOf profile bests holes chosen (count + 1) None
-  none_more was none j l = elim (cases_lt j count) [
-    | inl less ↦ was j less
-    | inr more ↦ next_ring j (omega (arith, l, more)) ∙ none
-  ]
+  none_more was none j l = elim (cases_lt j count) [ inl less ↦ was j less | inr more ↦ next_ring j (omega (arith, l, more)) ∙ none ]
 
   same_more : (held : RowLeast) → IsLeastRing profile bests holes chosen count held → ((r : ℤ) → ring ≡ Some r → held.ring ≤ℤ r) → IsLeastRing profile bests holes chosen (count + 1) held
   same_more held was no_less = record {
@@ -33,10 +30,7 @@ module _ (profile : Profile) (bests : List (Option BestPad)) (holes : List Drill
     inside = (let l = was.inside in omega (arith, l));
     there = was.there;
     has = was.has;
-    least = λ j r l e. elim (cases_lt j count) [
-      | inl less ↦ was.least j r less e
-      | inr more ↦ no_less r (sym (next_ring j (omega (arith, l, more))) ∙ e)
-    ];
+    least = λ j r l e. elim (cases_lt j count) [ inl less ↦ was.least j r less e | inr more ↦ no_less r (sym (next_ring j (omega (arith, l, more))) ∙ e) ];
     first = was.first;
   }
 
@@ -63,8 +57,7 @@ module _ (profile : Profile) (bests : List (Option BestPad)) (holes : List Drill
   by_same None was (Some r) e no_less = absurd (let w = no_less r refl in let f : None ≡ Some w.0 = w.1 in cc)
   by_same (Some held) was rest e no_less = same_more held was (λ r f.
       let w = no_less r (sym e ∙ f) in
-      let is : held ≡ w.0 = some_same held w.0 w.1 in
-      subst (λ (x : RowLeast). x.ring ≤ℤ r) (sym is) w.2)
+      let is : held ≡ w.0 = some_same held w.0 w.1 in subst (λ (x : RowLeast). x.ring ≤ℤ r) (sym is) w.2)
 
   pub next_least : (least result : Option RowLeast) → IsLeastRingOf profile bests holes chosen count least → IsLesser least hole ring result → IsLeastRingOf profile bests holes chosen (count + 1) result
   next_least least result was (inl same) = subst (IsLeastRingOf profile bests holes chosen (count + 1)) (sym same.same) (by_same least was ring refl same.no_less)

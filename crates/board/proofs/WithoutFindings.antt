@@ -15,8 +15,7 @@ use Rattle.ring_rules.proofs.SoundnessLemmas.{fails_placed, none_placed}
 
 all_none : {X Y : Type 0} (f : X → List Y) (xs : List X) → ((k : ℕ) (d : X) → k < length xs → f (get_or xs k d) ≡ []) → flat_map f xs ≡ []
 all_none f [] h = refl
-all_none f (x ∷ xs) h =
-    flat_map-cons f x xs ∙ (ap (λ ys. ys ++ flat_map f xs) (h 0 x (omega arith)) ∙ all_none f xs (λ k d l. h (suc k) d (omega (arith, l))))
+all_none f (x ∷ xs) h = flat_map-cons f x xs ∙ (ap (λ ys. ys ++ flat_map f xs) (h 0 x (omega arith)) ∙ all_none f xs (λ k d l. h (suc k) d (omega (arith, l))))
 
 all_fail : {X : Type 0} (p : X → Bool) (xs : List X) → ((k : ℕ) (d : X) → k < length xs → p (get_or xs k d) ≡ false) → filter p xs ≡ []
 all_fail p [] h = refl
@@ -30,13 +29,11 @@ placed xs k d h = let z : 0 + k ≡ k = omega arith in get_or-enumerate_from 0 x
 
 all_fail_placed : {X : Type 0} (p : ℕ × X → Bool) (xs : List X) → ((k : ℕ) (d : X) → k < length xs → p (k, get_or xs k d) ≡ false) → filter p (enumerate_from 0 xs) ≡ []
 all_fail_placed p xs h = all_fail p (enumerate_from 0 xs) (λ k d l.
-    let inside : k < length xs = omega (arith, l, length-enumerate_from 0 xs) in
-    ap p (placed xs k d inside) ∙ h k d.1 inside)
+    let inside : k < length xs = omega (arith, l, length-enumerate_from 0 xs) in ap p (placed xs k d inside) ∙ h k d.1 inside)
 
 all_none_placed : {X Y : Type 0} (f : ℕ × X → List Y) (xs : List X) → ((k : ℕ) (d : X) → k < length xs → f (k, get_or xs k d) ≡ []) → flat_map f (enumerate_from 0 xs) ≡ []
 all_none_placed f xs h = all_none f (enumerate_from 0 xs) (λ k d l.
-    let inside : k < length xs = omega (arith, l, length-enumerate_from 0 xs) in
-    ap f (placed xs k d inside) ∙ h k d.1 inside)
+    let inside : k < length xs = omega (arith, l, length-enumerate_from 0 xs) in ap f (placed xs k d inside) ∙ h k d.1 inside)
 
 -- ---- tests
 
@@ -81,8 +78,7 @@ module _ {S : Type 0} (covers : S → GridPoint → ℕ → Bool) (profile : Pro
       let found = (covering none).1 in
       let there = found.1 in
       let within : h.radius + q ≤ is.best.depth = is.deepest.deepest found.0 there.0 (h.radius + q) there.1 (ap (λ (x : S). covers_hole covers q h x) there.2 ∙ found.2) in
-      let e : ring ≡ pos is.best.depth -ℤ pos h.radius = is.less in
-      omega (arith, ints, e, within)
+      let e : ring ≡ pos is.best.depth -ℤ pos h.radius = is.less in omega (arith, ints, e, within)
 
   bare_lacks : IsRingOf covers profile pads h None → lacks_ring covers profile q pads h ≡ false → ⊥
   bare_lacks (inl refused) none = let f : true ≡ false = sym refused ∙ (covering none).0 in cc
@@ -160,14 +156,12 @@ module _ (q : ℕ) (holes : List Drilled) where
 pub clear_gap : (a b : GridHole) (gap : ℤ) (q : ℕ) → IsGap a b gap → are_clear q a b ≡ true → pos q ≤ℤ gap
 clear_gap a b gap q is e =
     let far : square (a.radius + b.radius + q) ≤ square_of_cores a b = grind (arith, nat_tests) in
-    let t : pos (a.radius + b.radius + q) ≤ℤ (gap +ℤ pos (a.radius + b.radius)) = (is (a.radius + b.radius + q)).0 far in
-    omega (arith, ints, t)
+    let t : pos (a.radius + b.radius + q) ≤ℤ (gap +ℤ pos (a.radius + b.radius)) = (is (a.radius + b.radius + q)).0 far in omega (arith, ints, t)
 
 gap_clear : (a b : GridHole) (gap : ℤ) (q : ℕ) → IsGap a b gap → pos q ≤ℤ gap → are_clear q a b ≡ true
 gap_clear a b gap q is le =
     let t : pos (a.radius + b.radius + q) ≤ℤ (gap +ℤ pos (a.radius + b.radius)) = omega (arith, ints, le) in
-    let far : square (a.radius + b.radius + q) ≤ square_of_cores a b = (is (a.radius + b.radius + q)).1 t in
-    grind (arith, nat_tests)
+    let far : square (a.radius + b.radius + q) ≤ square_of_cores a b = (is (a.radius + b.radius + q)).1 t in grind (arith, nat_tests)
 
 pub gaps_pass : GapsPassExactly
 gaps_pass holes mets.Any so q = (

@@ -1,6 +1,8 @@
 //! An order of pads in which those of about one size and place stand together. Any order is right: only the time depends on it.
 
-ghost use Rattle.std.specs.Prelude.{◌<◌};
+ghost use Rattle.std.specs.Prelude.{◌<◌, ◌≤◌};
+ghost use Rattle.grid_units.specs.Points.{IsCoordinate};
+ghost use Rattle.pad_shapes.specs.Shapes.{max_half_side};
 
 use crate::deep::DepthShape;
 use crate::hull::Hull;
@@ -13,16 +15,22 @@ fn spread(number: u64) -> u64 {
     (pairs | pairs << 3) & 0x1111_1111_1111_1111
 }
 
+/// A side of a hull, by its middle and half of its width along an axis, which may point either way.
+fn side(middle: i64, half: u64) -> u64
+    requires middle { IsCoordinate middle }
+    requires half { half ≤ max_half_side }
+{
+    ((1 << 46) + (middle - half as i64)).unsigned_abs()
+}
+
 /// The sides of a hull: left, right, bottom and top, each a number of at most 48 bits that is less where the hull is wider there.
 fn sides_of(hull: &Hull) -> [u64; 4] {
     let (x, y) = (hull.centre.x(), hull.centre.y());
-    let (half_x, half_y) = (hull.half_x as i64, hull.half_y as i64);
-    let middle = 1 << 46;
     [
-        (middle + (x - half_x)).unsigned_abs(),
-        (middle - (x + half_x)).unsigned_abs(),
-        (middle + (y - half_y)).unsigned_abs(),
-        (middle - (y + half_y)).unsigned_abs(),
+        side(x, hull.half_x),
+        side(-x, hull.half_x),
+        side(y, hull.half_y),
+        side(-y, hull.half_y),
     ]
 }
 

@@ -23,16 +23,10 @@ fn is_name_start(byte: u8) -> bool
     byte.is_ascii_alphabetic() || byte == b'_' || byte == b'.' || byte == b'$'
 }
 
-fn is_name_byte(byte: u8) -> bool
-    ensures { result ≡ is_name_byte byte }
-{
-    is_name_start(byte) || is_digit(byte) || byte == b'-'
-}
-
 fn are_name_bytes(bytes: &[u8]) -> bool
     ensures { result ≡ list_all is_name_byte bytes.now }
 {
-    bytes.iter().all(|byte| is_name_byte(*byte))
+    bytes.iter().all(|byte| is_name_start(*byte) || is_digit(*byte) || *byte == b'-')
 }
 
 /// Whether these bytes are a name: 1 to 127, the first a letter, `_`, `.` or `$`, further ones also digits or

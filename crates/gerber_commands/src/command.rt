@@ -16,7 +16,7 @@ pub struct Format {
 }
 
 /// How a plot goes from point to point: along a line or an arc (Gerber format, Plot state G01, G02, G03).
-#[derive(Clone, Copy, Debug, PartialEq, Eq)]
+#[derive(Clone, Copy, PartialEq, Eq)]
 pub enum Interpolation {
     Linear,
     Clockwise,

@@ -108,12 +108,12 @@ fn read_polarity(text: &[u8]) -> ItemRow
 fn read_mirror(text: &[u8]) -> ItemRow
     ensures { result ≡ mirror_row text.now }
 {
-    match text {
-        b"LMN" => Some(Ok(ItemCommands::one(Command::Mirror { x: false, y: false }))),
-        b"LMX" => Some(Ok(ItemCommands::one(Command::Mirror { x: true, y: false }))),
-        b"LMY" => Some(Ok(ItemCommands::one(Command::Mirror { x: false, y: true }))),
-        b"LMXY" => Some(Ok(ItemCommands::one(Command::Mirror { x: true, y: true }))),
-        _ => None,
+    let x = text == b"LMX".as_slice() || text == b"LMXY".as_slice();
+    let y = text == b"LMY".as_slice() || text == b"LMXY".as_slice();
+    if x || y || text == b"LMN".as_slice() {
+        Some(Ok(ItemCommands::one(Command::Mirror { x, y })))
+    } else {
+        None
     }
 }
 
@@ -469,10 +469,12 @@ fn before_asterisk(text: &[u8]) -> Option<&[u8]>
 fn read_wide_piece(alloc: Global, text: &[u8]) -> Result<ItemCommands, ItemFail>
     ensures { Gives result (wide_piece text.now) }
 {
-    match text {
-        b"LPC" => Ok(ItemCommands::one(Command::Clear)),
-        b"ICAS" => Ok(ItemCommands::nothing()),
-        _ => read_pieces(alloc, text),
+    if text == b"LPC".as_slice() {
+        Ok(ItemCommands::one(Command::Clear))
+    } else if text == b"ICAS".as_slice() {
+        Ok(ItemCommands::nothing())
+    } else {
+        read_pieces(alloc, text)
     }
 }
 

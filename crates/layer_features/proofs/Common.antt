@@ -21,7 +21,7 @@ pub use Rattle.layer_features.specs.FurtherPads.{CopperState, clearing_after, cl
 pub use Rattle.layer_features.specs.Inner.Forgetting.{are_sides_of_none, is_over, starts_no_pad, starts_no_polygon}
 pub use Rattle.layer_features.specs.Inner.Plotters.{Selection, after_command, draw_state, pencil_state, selection, selection_after}
 pub use Rattle.layer_features.specs.Inner.States.{IsLike, MakeSameContour, after, with_capped_regions, clearing_with, copper_state, parts_after, takes_part, with_parts}
-pub use Rattle.layer_features.specs.Inner.Steps.{AreWidePadsOf, changes_block, clockwise_round, counterclockwise_round, in_last_region, is_no_move, leading_sides, max_regions, polygon_of_sides}
+pub use Rattle.layer_features.specs.Inner.Steps.{AreWidePadsOf, changes_block, clockwise_round, counterclockwise_round, in_last_region, is_move_or_none, is_no_move, leading_sides, max_regions, polygon_of_sides}
 pub use Rattle.layer_features.specs.Inner.Turns.{turns_both_ways, turns_left, turns_right}
 pub use Rattle.layer_features.specs.Kept.{KeepsFeatures, first_taken_away, keeps_drawn, keeps_rows, left_pads}
 pub use Rattle.layer_features.specs.WidePads.{AreDarkPads, AreWideFlashPads, AreWidePads, AreWidePadsAt, IsMacroShape, IsSelectedShape, IsTemplateShape, contour_after, contours_at, plot_state_after, point_in, template_set, wide_pad_at}

@@ -8,7 +8,7 @@ ghost use Rattle.layer_features.specs.Inner.States.{clearing_with};
 use gerber_text::{Action, Command};
 
 /// Polarity, and what it did to the open block, after some commands.
-#[derive(Clone, Copy, Debug, PartialEq, Eq)]
+#[derive(Clone, Copy)]
 pub(crate) struct Clearing {
     /// Whether polarity is clear.
     pub(crate) clear: bool,

@@ -1,10 +1,10 @@
 //! The contour of a region, where it counts as a pad.
 
 ghost use Rattle.std.specs.Prelude.{◌≡◌, ◌≤◌, ◌∷◌, IfOk, option_map, length};
-ghost use Rattle.std.specs.List.{list_all, list_any};
+ghost use Rattle.std.specs.List.{list_all, list_any, prefix_len};
 ghost use Rattle.std.specs.Option.{option_copied};
 ghost use Rattle.layer_features.specs.Contours.{contour_of, ends_of, is_clockwise, is_counterclockwise, is_move, points_of, polygon_by, sides_of};
-ghost use Rattle.layer_features.specs.Inner.Steps.{clockwise_round, counterclockwise_round, leading_moves, leading_sides, polygon_of_sides};
+ghost use Rattle.layer_features.specs.Inner.Steps.{clockwise_round, counterclockwise_round, is_move_or_none, polygon_of_sides};
 
 use crate::part::Part;
 use grid_units::Point;
@@ -12,26 +12,13 @@ use macro_shapes::polygon_round;
 use pad_shapes::Rounded;
 use std::alloc::{AllocError, Global};
 
-/// How many moves stand first.
-fn leading_moves(parts: &[Part]) -> usize
+/// How many parts stand first that are moves, or that are none.
+fn leading(moves: bool, parts: &[Part]) -> usize
     ensures within { result ≤ length parts.now }
-    ensures len { result ≡ leading_moves parts.now }
+    ensures len { result ≡ prefix_len (is_move_or_none moves) parts.now }
 {
     for (i, part) in parts.iter().enumerate() {
-        if !part.is_move() {
-            return i;
-        }
-    }
-    parts.len()
-}
-
-/// How many parts that are no moves stand first.
-fn leading_sides(parts: &[Part]) -> usize
-    ensures within { result ≤ length parts.now }
-    ensures len { result ≡ leading_sides parts.now }
-{
-    for (i, part) in parts.iter().enumerate() {
-        if part.is_move() {
+        if part.is_move() != moves {
             return i;
         }
     }
@@ -49,9 +36,9 @@ fn are_moves(parts: &[Part]) -> bool
 fn sides_of(parts: &[Part]) -> Option<&[Part]>
     ensures { option_copied result ≡ sides_of parts.now }
 {
-    let moves = leading_moves(parts);
+    let moves = leading(true, parts);
     let rest = &parts[moves..];
-    let sides = leading_sides(rest);
+    let sides = leading(false, rest);
     if moves == 0 || !are_moves(&rest[sides..]) {
         return None;
     }

@@ -12,7 +12,7 @@ use crate::feature::{Feature, FeatureKind};
 use std::alloc::AllocError;
 
 /// How many flashes and contours there are of each kind.
-#[derive(Clone, Copy, Debug, PartialEq, Eq)]
+#[derive(Clone, Copy)]
 pub struct FeatureCounts {
     /// Flashes that are pads.
     pub flashed: usize,

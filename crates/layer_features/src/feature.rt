@@ -8,7 +8,7 @@ use pad_shapes::{FeatureRow, Pad, PlacedRounded, RowKind, Why, WidePad};
 use std::alloc::{AllocError, Global};
 
 /// What a flash or a contour is once the whole layer is drawn.
-#[derive(Debug, Drop)]
+#[derive(Drop)]
 pub enum FeatureKind {
     /// A flash that is a pad of a standard aperture.
     Pad(Pad),
@@ -27,7 +27,7 @@ pub enum FeatureKind {
 }
 
 /// A flash at its point, or a contour at its first corner. A step and repeat block has one for each copy.
-#[derive(Debug, Drop)]
+#[derive(Drop)]
 pub struct Feature {
     pub at: Point,
     pub what: FeatureKind,

@@ -27,15 +27,12 @@ pub(crate) fn is_over(parts: &[Part]) -> bool
 fn starts_no_pad(alloc: Global, parts: &[Part]) -> Result<bool, AllocError>
     ensures { IfOk result (λ answer. answer ≡ starts_no_pad parts.now) }
 {
-    let [first, sides @ ..] = parts else {
-        return Ok(false);
-    };
-    if !first.is_move() {
-        return Ok(false);
-    }
-    match points_of(alloc, sides)? {
-        Some(points) => Ok(starts_no_polygon(&points)),
-        None => Ok(false),
+    match parts {
+        [first, sides @ ..] if first.is_move() => match points_of(alloc, sides)? {
+            Some(points) => Ok(starts_no_polygon(&points)),
+            None => Ok(false),
+        },
+        _ => Ok(false),
     }
 }
 

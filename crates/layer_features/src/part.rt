@@ -18,7 +18,7 @@ use grid_units::Point;
 use std::alloc::{AllocError, Global};
 
 /// What an operation adds to a region.
-#[derive(Clone, Copy, Debug, PartialEq, Eq)]
+#[derive(Clone, Copy)]
 pub(crate) enum Part {
     /// A move, which ends a contour.
     Move,

@@ -3,7 +3,7 @@
 ghost use Rattle.std.specs.Prelude.{◌≡◌, ◌≤◌, ◌*ℤ◌, unsigned_abs};
 ghost use Rattle.pad_shapes.specs.Rounded.{cross};
 ghost use Rattle.layer_features.specs.Inner.Forgetting.{starts_no_polygon};
-ghost use Rattle.layer_features.specs.Inner.Turns.{turns_left, turns_right};
+ghost use Rattle.layer_features.specs.Inner.Turns.{is_turn, turns};
 
 use grid_units::Point;
 use macro_shapes::has_many_stops;
@@ -26,27 +26,20 @@ fn cross(from: Point, to: Point, point: Point) -> i128
         - product(to.y() - from.y(), point.x() - from.x())
 }
 
-/// Whether a run of points turns to the left at one of them.
-fn turns_left(run: &[Point]) -> bool
-    ensures { result ≡ turns_left run.now }
+/// Whether three points turn to the left, or to the right, by twice the area of their triangle.
+fn is_turn(left: bool, area: i128) -> bool
+    ensures { result ≡ is_turn left area }
 {
-    let mut rest = run;
-    while let [a, b, c, ..] = rest {
-        if cross(*a, *b, *c) > 0 {
-            return true;
-        }
-        rest = &rest[1..];
-    }
-    false
+    if left { area > 0 } else { area < 0 }
 }
 
-/// Whether a run of points turns to the right at one of them.
-fn turns_right(run: &[Point]) -> bool
-    ensures { result ≡ turns_right run.now }
+/// Whether a run of points turns to the left at one of them, or to the right.
+fn turns(left: bool, run: &[Point]) -> bool
+    ensures { result ≡ turns left run.now }
 {
     let mut rest = run;
     while let [a, b, c, ..] = rest {
-        if cross(*a, *b, *c) < 0 {
+        if is_turn(left, cross(*a, *b, *c)) {
             return true;
         }
         rest = &rest[1..];
@@ -58,5 +51,5 @@ fn turns_right(run: &[Point]) -> bool
 pub(crate) fn starts_no_polygon(run: &[Point]) -> bool
     ensures { result ≡ starts_no_polygon run.now }
 {
-    has_many_stops(run) || (turns_left(run) && turns_right(run))
+    has_many_stops(run) || (turns(true, run) && turns(false, run))
 }

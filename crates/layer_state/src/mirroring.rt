@@ -2,7 +2,7 @@
 
 ghost use Rattle.std.specs.Prelude.{◌≡◌, IfOk, map};
 ghost use Rattle.grid_units.specs.Points.{IsCoordinate};
-ghost use Rattle.macro_shapes.specs.Primitives.{quarter_turns, turned_x, turned_y};
+ghost use Rattle.macro_shapes.specs.Primitives.{quarter_turns};
 ghost use Rattle.layer_state.specs.Placing.{in_order, is_turned_over, mirrored_point, negated_where, no_mirroring, oriented_point, oriented_shape, turned_point, turned_shape};
 
 use grid_units::{Dec, Point};
@@ -53,43 +53,23 @@ fn mirrored_point(mirroring: Mirroring, p: Point) -> Point
     Point::new(x, y).unwrap()
 }
 
-/// The x of a point that is turned counterclockwise about (0, 0) by so many quarters.
-fn turned_x(turns: u8, p: Point) -> i64
-    ensures value { result ≡ turned_x turns p }
-    ensures in_range { IsCoordinate result }
+/// A point turned counterclockwise about (0, 0) by a quarter.
+fn quarter_turned(p: Point) -> Point
+    ensures { result ≡ turned_point 1 p }
 {
-    if turns == 0 {
-        p.x()
-    } else if turns == 1 {
-        -p.y()
-    } else if turns == 2 {
-        -p.x()
-    } else {
-        p.y()
-    }
-}
-
-/// And its y.
-fn turned_y(turns: u8, p: Point) -> i64
-    ensures value { result ≡ turned_y turns p }
-    ensures in_range { IsCoordinate result }
-{
-    if turns == 0 {
-        p.y()
-    } else if turns == 1 {
-        p.x()
-    } else if turns == 2 {
-        -p.y()
-    } else {
-        -p.x()
-    }
+    Point::new(-p.y(), p.x()).unwrap()
 }
 
 /// A point turned counterclockwise about (0, 0) by so many quarters.
 fn turned_point(turns: u8, p: Point) -> Point
     ensures { result ≡ turned_point turns p }
 {
-    Point::new(turned_x(turns, p), turned_y(turns, p)).unwrap()
+    match turns {
+        0 => p,
+        1 => quarter_turned(p),
+        2 => quarter_turned(quarter_turned(p)),
+        _ => quarter_turned(quarter_turned(quarter_turned(p))),
+    }
 }
 
 /// A corner of an aperture as it is flashed.

@@ -48,17 +48,7 @@ impl State {
             Command::Scale(scale) => (scale.units() <= 0).then_some(Reason::BadSize),
             Command::Repeat(block) => is_bad_repeat(*block).then_some(Reason::BadRepeat),
             Command::Finish => self.finish_rule(),
-            Command::Comment(_)
-            | Command::Mode(_)
-            | Command::Quadrant(_)
-            | Command::RegionStart
-            | Command::Dark
-            | Command::Clear
-            | Command::Mirror { .. }
-            | Command::Turn(_)
-            | Command::RepeatEnd
-            | Command::Attribute(_, _)
-            | Command::Remove(_) => None,
+            _ => None,
         }
     }
 

@@ -1,6 +1,6 @@
 -- The entries of a report and the findings of its check.
-use Rattle.package_check.proofs.Common.{◌≡◌, ◌+◌, ◌∷◌, ℕ, Bool, false, List, [], length, refl, sym, subst, ap, ap₂, ◌∙◌, AllZip, filter, GridRules, Finding, IsReport, BoardView, board_findings, report_of_board, IsGapEntry, IsRingEntry, is_gap, MatchesGap, MatchesRing, ReportAgreesWithCheck, AllZip-long, nil_from_length, not_not, Gap, AnswerIsUnique, ReportView, PassingIsSound}
-use Rattle.std.proofs.Common.{true, not}
+use Rattle.package_check.proofs.Common.{◌≡◌, ◌+◌, ◌∷◌, ℕ, List, [], length, refl, sym, subst, ap, ap₂, ◌∙◌, AllZip, filter, GridRules, Finding, IsReport, BoardView, board_findings, report_of_board, IsGapEntry, IsRingEntry, is_gap, MatchesGap, MatchesRing, ReportAgreesWithCheck, AllZip-long, nil_from_length, not_not, Gap, AnswerIsUnique, ReportView, PassingIsSound}
+use Rattle.std.proofs.Common.{not}
 use Rattle.std.specs.Prelude.{Ok}
 use Rattle.std.proofs.lemmas.List.Filters.{length-filter_both}
 use Rattle.package_check.proofs.FlashReadingLemmas.{ok_same}

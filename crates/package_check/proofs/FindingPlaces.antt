@@ -1,5 +1,5 @@
 -- What the findings of a report name.
-use Rattle.package_check.proofs.Common.{◌≡◌, ◌+◌, ◌++◌, length, sym, subst, All, length-map, All-append, wide_pad_covers, NamesPlaces, RingsNamePlaces, GapsNamePlaces, ring_findings, gap_findings, holes_of_all, layer_indexes, layers, numbered_holes, FindingsNameTheirPlaces}
+use Rattle.package_check.proofs.Common.{◌≡◌, ◌++◌, length, sym, subst, All, length-map, All-append, wide_pad_covers, NamesPlaces, RingsNamePlaces, GapsNamePlaces, ring_findings, gap_findings, holes_of_all, layer_indexes, layers, numbered_holes, FindingsNameTheirPlaces}
 use Rattle.package_check.proofs.LayerFiles.{indexed_from}
 
 pub findings_name_their_places : RingsNamePlaces wide_pad_covers → GapsNamePlaces → FindingsNameTheirPlaces

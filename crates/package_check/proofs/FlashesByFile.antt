@@ -1,5 +1,5 @@
 -- Flashes, and what is drawn, that are kept file by file.
-use Rattle.package_check.proofs.Common.{◌≡◌, ◌<◌, ◌∷◌, ℕ, zero, suc, List, [], Result, Ok, length, get_or, arith, refl, true, ap, ◌∙◌, false≢true, Fault, without_places, drawn_in, keeps_drawn, keeps_rows, LayerImage, ReadingIsUniqueIn, Drawn, Keep, Draws, FileView, AreDrawnOf, AreFileLists}
+use Rattle.package_check.proofs.Common.{◌<◌, ◌∷◌, ℕ, zero, suc, List, [], Ok, length, get_or, arith, refl, ap, ◌∙◌, without_places, drawn_in, LayerImage, ReadingIsUniqueIn, Drawn, Draws, FileView, AreDrawnOf, AreFileLists}
 use Rattle.package_check.proofs.FlashReadingLemmas.{ok_same}
 
 -- what a text draws is what each layer draws that it reads as

@@ -1,5 +1,5 @@
 -- The report on what is left of the files of a package.
-use Rattle.package_check.proofs.Common.{◌≡◌, cond, ◌≤◌, ◌+◌, ◌++◌, ℕ, suc, List, [], ◌∷◌, Bool, true, Option, Some, None, Ok, Err, length, map, take, slice_get, arith, refl, subst, sym, ap, ap₂, ◌∙◌, zero-add, enumerate_from, flat_map, sum_by, flat_map-cons, sum_by-cons, none-some, GridRules, WidePad, wide_pad_covers, gap_findings, layer_findings, Drilled, Finding, ReadingIsUnique, hole_count, numbered_from, CheckView, holes_in_slot, HasJudgedAll, IsJudgedOf, drill_files, layer_number, is_wanted, kept_at, index_in, layer_indexes_in, left_report, rings_in, sums_in, Judges, rings_of, FileView, HasContent, HaveContents, IsReport, ReturnsReport, holes_of_all, findings, index_of, is_copper, layer_indexes, layers, pads_of, report_on, sum_of, ReportView, drilled_in, FileSum, PackageFault, Content, Judged}
+use Rattle.package_check.proofs.Common.{◌≡◌, cond, ◌≤◌, ◌+◌, ◌++◌, ℕ, suc, List, [], ◌∷◌, Bool, true, Option, Some, None, Ok, Err, length, map, take, slice_get, arith, refl, subst, sym, ap, ap₂, ◌∙◌, zero-add, enumerate_from, flat_map, sum_by, flat_map-cons, sum_by-cons, none-some, GridRules, WidePad, wide_pad_covers, gap_findings, layer_findings, Drilled, Finding, ReadingIsUnique, hole_count, numbered_from, CheckView, holes_in_slot, HasJudgedAll, IsJudgedOf, drill_files, layer_number, is_wanted, kept_at, index_in, layer_indexes_in, left_report, rings_in, sums_in, Judges, rings_of, FileView, HasContent, HaveContents, IsReport, ReturnsReport, findings, index_of, is_copper, layer_indexes, layers, pads_of, report_on, sum_of, ReportView, drilled_in, FileSum, PackageFault, Content, Judged}
 use Rattle.package_check.specs.declared.PackageFault.TheVariants as stop
 use Rattle.package_check.specs.declared.contents.Content.TheVariants as content
 use Rattle.package_check.proofs.AnswerUniqueness.{same_contents}

@@ -1,5 +1,5 @@
 -- Holes that are marked as plated or not, one by one.
-use Rattle.package_check.proofs.Common.{◌≡◌, ◌<◌, ◌≤◌, ◌+◌, ◌⊎◌, ◌++◌, ℕ, zero, suc, Bool, false, List, [], ◌∷◌, length, take, get_or, arith, refl, ap, sym, inl, inr, ◌∙◌, Contains, GridHole, LayerSpan, Drilled, holes_with_platings}
+use Rattle.package_check.proofs.Common.{◌≡◌, ◌<◌, ◌≤◌, ◌+◌, ◌⊎◌, ◌++◌, ℕ, zero, suc, Bool, List, [], ◌∷◌, length, take, get_or, arith, refl, ap, sym, inl, inr, ◌∙◌, Contains, GridHole, LayerSpan, Drilled, holes_with_platings}
 use Rattle.std.specs.Prelude.{Option}
 
 -- one more hole

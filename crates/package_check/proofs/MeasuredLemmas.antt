@@ -1,5 +1,5 @@
 -- A package passes under just the rules that it meets.
-use Rattle.package_check.proofs.Common.{◌≡◌, ℕ, List, Err, IfOk, refl, sym, ap, ◌∙◌, GridRules, Profile, wide_pad_covers, report_of_board, IsAnswer, IsReport, FileView, Fault, AnswerIsUnique, ReportView, PackageFault}
+use Rattle.package_check.proofs.Common.{ℕ, List, Err, IfOk, refl, sym, ap, ◌∙◌, GridRules, Profile, wide_pad_covers, report_of_board, IsAnswer, IsReport, FileView, Fault, AnswerIsUnique, ReportView, PackageFault}
 use Rattle.std.proofs.Common.{Result, Ok}
 use Rattle.board.specs.Meets.{GapsPassExactly, RingsPassExactly}
 use Rattle.package_check.specs.Measures.{AnswersMeasure, MeasuredPasses, PackagePasses, RefusesAlike}

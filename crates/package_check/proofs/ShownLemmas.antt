@@ -1,5 +1,5 @@
 -- What is kept of a copper file to be shown.
-use Rattle.package_check.proofs.Common.{◌≡◌, ◌∙◌, ℕ, Bool, true, false, List, [], Result, Ok, refl, ap, if◌then◌else◌, Profile, Strict, Wide, without_places, LayerImage, ReadsLayerIn, StrictLayers, counting_profile, drawn_in, first_parts, uncleared_drawn, keeps_drawn, keeps_rows, Keep, copper_keep, features_of, view_in, wide_features_of}
+use Rattle.package_check.proofs.Common.{◌≡◌, ◌∙◌, ℕ, Bool, true, false, List, [], Ok, refl, ap, if◌then◌else◌, Profile, Strict, Wide, without_places, LayerImage, ReadsLayerIn, StrictLayers, counting_profile, drawn_in, first_parts, uncleared_drawn, keeps_drawn, keeps_rows, Keep, copper_keep, features_of, view_in, wide_features_of}
 use Rattle.layer_features.specs.declared.keep.Keep.TheVariants as keep
 
 -- what the profile has of the flashes and contours of the wide one

@@ -1,5 +1,5 @@
 -- What files say in the strict profile, they say in the wide one, with further pads.
-use Rattle.package_check.proofs.Common.{◌≡◌, ◌⊎◌, inl, inr, ◌↔◌, ◌<◌, ◌+◌, ◌++◌, ℕ, zero, suc, Bool, true, false, List, [], ◌∷◌, None, Ok, length, map, get_or, arith, refl, ap, ap₂, sym, subst, ◌∙◌, ⊤, option_map, AllByRecursion, Contains, cons_option, enumerate_from, filter, flat_map, list_any, flat_map-cons, Contains-append_cases, Contains-append_left, Strict, Wide, DrillCommand, calls_plated, ReadsBy, ReadsIn, mixed_in, unplated_in, IsDrillText, without_places, StrictLayers, Feature, wide_pad_covers, WidePad, Role, Said, gap_findings, ring_findings, Finding, DrillView, LayerView, HasLayerView, ReadsDrill, layer_view, FileView, BytesHaveContent, HaveContents, holes_of_all, holes_of, index_of, layers, numbered_holes, pads_of, report_on, FindsNoMore, IsUncontradicted, WideFindsNoMore, is_gap, read_in, said_in, Numbered, Content, both_ways, GridPoint, FeatureKind, pad_in, strict_kind_of, strict_view, wide_features_of, Plain, Rounded, Ring, Oblique}
+use Rattle.package_check.proofs.Common.{◌≡◌, ◌⊎◌, inl, inr, ◌↔◌, ◌<◌, ◌+◌, ◌++◌, ℕ, zero, suc, true, false, List, [], ◌∷◌, None, Ok, length, map, get_or, arith, refl, ap, ap₂, sym, subst, ◌∙◌, ⊤, option_map, AllByRecursion, Contains, cons_option, enumerate_from, filter, flat_map, list_any, flat_map-cons, Contains-append_cases, Contains-append_left, Strict, Wide, DrillCommand, calls_plated, ReadsBy, ReadsIn, mixed_in, unplated_in, IsDrillText, without_places, StrictLayers, Feature, wide_pad_covers, WidePad, Role, Said, gap_findings, ring_findings, Finding, DrillView, LayerView, HasLayerView, ReadsDrill, layer_view, FileView, BytesHaveContent, HaveContents, holes_of_all, holes_of, index_of, layers, numbered_holes, pads_of, report_on, FindsNoMore, IsUncontradicted, WideFindsNoMore, is_gap, read_in, said_in, Numbered, Content, both_ways, GridPoint, FeatureKind, pad_in, strict_kind_of, strict_view, wide_features_of, Plain, Rounded, Ring, Oblique}
 use Rattle.drill_text.specs.Profiles as drills
 use Rattle.layer_features.specs.declared.feature.FeatureKind.TheVariants as kind
 use Rattle.layer_features.specs.Features.{pads_of as feature_pads}

@@ -223,14 +223,11 @@ impl PackageCheck {
         ensures rules { self.new.rules ≡ self.old.rules }
         ensures stopped { self.new.stopped ≡ self.old.stopped }
     {
-        let judged = file
-            .reading
-            .finish(self.alloc, &mut self.holes, file.layer)?;
-        if has_drill(&self.slots, file.index) {
-            return Ok(());
+        match file.reading.finish(self.alloc, &mut self.holes, file.layer) {
+            Ok(judged) if has_drill(&self.slots, file.index) => Ok(drop(judged)),
+            Ok(judged) => Ok(put(&mut self.slots, file.index, judged)?),
+            Err(fail) => Err(fail),
         }
-        put(&mut self.slots, file.index, judged)?;
-        Ok(())
     }
 
     /// The report on the files that were taken, in the order of their indexes, as that of [`crate::check_bytes`].

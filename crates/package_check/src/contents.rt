@@ -59,7 +59,9 @@ pub(crate) fn read_copper(
 {
     let profile = reader.profile();
     let image = reader.finish()?;
-    let layer = view(alloc, profile, keep, shown, image)?;
+    let Ok(layer) = view(alloc, profile, keep, shown, image) else {
+        return Err(Fail::Memory);
+    };
     if layer.is_copper {
         Ok(Content::Layer(layer))
     } else {

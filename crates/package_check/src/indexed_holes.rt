@@ -105,8 +105,13 @@ impl IndexedHoles {
         ensures rules { self.new.rules ≡ self.old.rules }
     {
         let index = RingIndex::new(alloc, &self.holes, self.rules, size.width, size.height)?;
-        self.search = self.take_search_over(alloc, &index)?;
-        self.index = index;
+        let Ok(search) = self.take_search_over(alloc, &index) else {
+            // Calls of `drop`, here and below: the proof need not go through the parts.
+            drop(index);
+            return Err(AllocError);
+        };
+        self.search = search;
+        drop(std::mem::replace(&mut self.index, index));
         self.size = size;
         self.tried = 0;
         Ok(())
@@ -118,7 +123,7 @@ impl IndexedHoles {
         ensures holes { self.new.holes ≡ self.old.holes }
         ensures rules { self.new.rules ≡ self.old.rules }
     {
-        self.search = None;
+        drop(self.search.take());
         self.is_fresh = true;
     }
 
@@ -184,7 +189,7 @@ impl IndexedHoles {
         ensures rules { self.new.rules ≡ self.old.rules }
     {
         if forgets {
-            self.search = None;
+            drop(self.search.take());
         }
     }
 
@@ -285,8 +290,12 @@ impl IndexedHoles {
         if !is_copper_function(rest.file_function()) {
             return Err(refusal(Reason::NotCopper));
         }
-        self.try_all(alloc, layer, rest.pads(), rest.wide_pads())?;
-        let rings = self.rings(alloc, layer)?;
+        let Ok(()) = self.try_all(alloc, layer, rest.pads(), rest.wide_pads()) else {
+            return Err(Fail::Memory);
+        };
+        let Ok(rings) = self.rings(alloc, layer) else {
+            return Err(Fail::Memory);
+        };
         let counts = rest.counts();
         let sum = FileSum::Layer {
             pads: counts.flashed,
@@ -308,7 +317,9 @@ impl IndexedHoles {
         ensures holes { IfOk result (λ both. both.0.items ≡ self.holes) }
         ensures gaps { IfOk result (λ both. both.1.items ≡ gap_findings self.rules.gap self.holes) }
     {
-        let gaps = self.index.gap_findings(alloc, &self.holes)?;
-        Ok((self.holes, gaps))
+        let gaps = self.index.gap_findings(alloc, &self.holes);
+        drop(self.index);
+        drop(self.search);
+        Ok((self.holes, gaps?))
     }
 }

@@ -2,7 +2,7 @@
 
 ghost use Rattle.std.specs.Prelude.{◌≡◌, Some, map, slice_get};
 ghost use Rattle.std.specs.Fmt.{DisplaysOnOk};
-ghost use Rattle.package_check.specs.Texts.{contour_words, yes_or_no, file_line, file_lines, finding_line, gap_line, hole_line, last_line, lengths_of, line_if_found, profile_words, rules_line, span_words};
+ghost use Rattle.package_check.specs.Texts.{contour_words, drill_words, yes_or_no, file_line, file_lines, finding_line, gap_line, hole_line, last_line, lengths_of, line_if_found, profile_words, rules_line, span_words};
 
 use crate::{FileSum, Report};
 use grid_units::{Hole, Line, Profile, Rules, write_mm};
@@ -68,8 +68,25 @@ impl Display for ContourWords {
     }
 }
 
+/// The line of a drill file up to its counts, by its number, whether it is plated, its round holes and its slots.
+#[derive(Clone, Copy)]
+struct DrillHead(usize, &'static str, usize, usize);
+
+impl Display for DrillHead {
+    ghost output = { λ it. Some (drill_words it.0 it.1.now it.2 it.3) };
+
+    #[tactic(auto, unfolding(crate::specs::Texts::drill_words))]
+    fn fmt<W: fmt::Write>(&self, f: &mut Formatter<W>) -> fmt::Result {
+        let DrillHead(number, plated, round, slots) = *self;
+        write!(
+            f,
+            "file {number} drill plated={plated} round={round} slots={slots}"
+        )
+    }
+}
+
 /// Writes the line of a file, by its number from 1.
-#[tactic(auto, unfolding(crate::specs::Texts::drill_words, crate::specs::Texts::layer_words))]
+#[tactic(auto, unfolding(crate::specs::Texts::layer_words))]
 fn write_file<W: fmt::Write>(
     f: &mut Formatter<W>,
     profile: Profile,
@@ -96,12 +113,9 @@ fn write_file<W: fmt::Write>(
             slots,
             ..
         } => {
-            let (plated, span) = (yes_or_no(plated), SpanWords(span));
-            write!(
-                f,
-                "file {number} drill plated={plated} round={round} slots={slots}"
-            )?;
-            write!(f, "{span} name={name}\n")
+            let plated = yes_or_no(plated);
+            let (words, span) = (DrillHead(number, plated, round, slots), SpanWords(span));
+            write!(f, "{words}{span} name={name}\n")
         }
         FileSum::Mixed {
             span,
@@ -109,12 +123,8 @@ fn write_file<W: fmt::Write>(
             slots,
             unplated,
         } => {
-            let (plated, span) = ("mixed", SpanWords(span));
-            write!(
-                f,
-                "file {number} drill plated={plated} round={round} slots={slots}"
-            )?;
-            write!(f, " unplated={unplated}{span} name={name}\n")
+            let (words, span) = (DrillHead(number, "mixed", round, slots), SpanWords(span));
+            write!(f, "{words} unplated={unplated}{span} name={name}\n")
         }
     }
 }

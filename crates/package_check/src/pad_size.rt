@@ -73,6 +73,9 @@ pub(crate) fn mean_size<S: PadShape>(pads: &[S]) -> Option<PadSize> {
         height = height.saturating_add(size.height);
     }
     let count = sample(pads).count() as u64;
-    let (width, height) = (width.checked_div(count)?, height.checked_div(count)?);
+    if count == 0 {
+        return None;
+    }
+    let (width, height) = (width / count, height / count);
     Some(PadSize { width, height })
 }

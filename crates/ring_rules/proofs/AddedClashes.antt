@@ -21,10 +21,7 @@ pub adds_none : (gap : ℕ) (spots : List Spot) (a : List (ℕ × ℕ)) → Adds
 adds_none gap spots a = record { kept = λ p h. h; sound = λ p h. inl h }
 
 pub adds_both : (gap : ℕ) (spots : List Spot) (a b c : List (ℕ × ℕ)) → AddsClashes gap spots a b → AddsClashes gap spots b c → AddsClashes gap spots a c
-adds_both gap spots a b c first second = record {
-  kept = λ p h. second.kept p (first.kept p h);
-  sound = λ p h. elim (second.sound p h) [ inl early ↦ first.sound p early | inr clash ↦ inr clash ];
-}
+adds_both gap spots a b c first second = record { kept = λ p h. second.kept p (first.kept p h); sound = λ p h. elim (second.sound p h) [ inl early ↦ first.sound p early | inr clash ↦ inr clash ] }
 
 pub adds_one : (gap : ℕ) (spots : List Spot) (a : List (ℕ × ℕ)) (i j : ℕ) (q : ℕ × ℕ) → AreClashing gap spots i j q → AddsClashes gap spots a (a ++ q ∷ [])
 adds_one gap spots a i j q clash = record {

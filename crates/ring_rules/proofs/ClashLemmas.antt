@@ -75,16 +75,13 @@ gap_pairs gap holes = flat_map (clash_row gap holes) (enumerate_from 0 holes)
 map_flat : {X Y Z : Type 0} (g : Y → Z) (f : X → List Y) (h : X → List Z) → ((x : X) → map g (f x) ≡ h x) → (xs : List X) → map g (flat_map f xs) ≡ flat_map h xs
 map_flat g f h same [] = refl
 map_flat g f h same (x ∷ xs) =
-    ap (map g) (flat_map-cons f x xs)
-    ∙ (map-append g (f x) (flat_map f xs)
-    ∙ (ap (λ ys. ys ++ map g (flat_map f xs)) (same x)
+    ap (map g) (flat_map-cons f x xs) ∙ (map-append g (f x) (flat_map f xs) ∙ (ap (λ ys. ys ++ map g (flat_map f xs)) (same x)
     ∙ (ap (λ ys. h x ++ ys) (map_flat g f h same xs) ∙ sym (flat_map-cons h x xs))))
 
 pub gap_pairs_listed : (gap : ℕ) (holes : List Drilled) → map (λ (p : ℕ × ℕ). Gap p.0 p.1) (gap_pairs gap holes) ≡ gap_findings gap holes
 gap_pairs_listed gap holes =
     map_flat (λ (p : ℕ × ℕ). Gap p.0 p.1) (clash_row gap holes) (λ (a : ℕ × Drilled). hole_findings gap holes a.0 a.1)
-    (λ a. map-map (λ (p : ℕ × ℕ). Gap p.0 p.1) (λ (b : ℕ × Drilled). (a.0, b.0)) (filter (clash_test gap a) (enumerate_from 0 holes)))
-    (enumerate_from 0 holes)
+    (λ a. map-map (λ (p : ℕ × ℕ). Gap p.0 p.1) (λ (b : ℕ × Drilled). (a.0, b.0)) (filter (clash_test gap a) (enumerate_from 0 holes))) (enumerate_from 0 holes)
 
 row_rises : (gap : ℕ) (holes : List Drilled) (a : ℕ × Drilled) → AllPairs IsPairBefore (clash_row gap holes a)
 row_rises gap holes a =
@@ -103,8 +100,7 @@ rows_rise {X} f up first m (x ∷ xs) =
     let whole : flat_map f (enumerate_from m (x ∷ xs)) ≡ f (m, x) ++ flat_map f (enumerate_from (m + 1) xs) = flat_map-cons f (m, x) (enumerate_from (m + 1) xs) in
     let later : All (λ (p : ℕ × ℕ). All (IsPairBefore p) (flat_map f (enumerate_from (m + 1) xs))) (f (m, x)) =
     All-weaker (λ (p : ℕ × ℕ). p.0 ≡ m) (λ (p : ℕ × ℕ). All (IsPairBefore p) (flat_map f (enumerate_from (m + 1) xs)))
-    (λ p same. All-weaker (λ (q : ℕ × ℕ). m + 1 ≤ q.0) (IsPairBefore p) (λ q h. inl (omega (arith, h, same))) (flat_map f (enumerate_from (m + 1) xs)) rest.1)
-    (f (m, x)) (first (m, x)) in (
+    (λ p same. All-weaker (λ (q : ℕ × ℕ). m + 1 ≤ q.0) (IsPairBefore p) (λ q h. inl (omega (arith, h, same))) (flat_map f (enumerate_from (m + 1) xs)) rest.1) (f (m, x)) (first (m, x)) in (
       subst (AllPairs IsPairBefore) (sym whole) (pairs_append IsPairBefore (f (m, x)) (flat_map f (enumerate_from (m + 1) xs)) (up (m, x)) rest.0 later),
       subst (All (λ (p : ℕ × ℕ). m ≤ p.0)) (sym whole) (All-append (λ (p : ℕ × ℕ). m ≤ p.0) (f (m, x)) (flat_map f (enumerate_from (m + 1) xs))
           (All-weaker (λ (p : ℕ × ℕ). p.0 ≡ m) (λ (p : ℕ × ℕ). m ≤ p.0) (λ p same. omega (arith, same)) (f (m, x)) (first (m, x)))
@@ -123,10 +119,8 @@ both_true false b e = absurd cc
 pub gap_pairs_clash : (gap : ℕ) (holes : List Drilled) → All (IsClash gap holes) (gap_pairs gap holes)
 gap_pairs_clash gap holes =
     let placed : All (IsPlaced holes) (enumerate_from 0 holes) = placed_right holes (enumerate_from 0 holes) (IsPermutation-refl (enumerate_from 0 holes)) in
-    all_flat_map (IsClash gap holes) (clash_row gap holes) (enumerate_from 0 holes)
-    (All-weaker (IsPlaced holes) (λ a. All (IsClash gap holes) (clash_row gap holes a))
-    (λ a here. All-map (IsClash gap holes) (λ (b : ℕ × Drilled). (a.0, b.0)) (filter (clash_test gap a) (enumerate_from 0 holes))
-    (λ k d h.
+    all_flat_map (IsClash gap holes) (clash_row gap holes) (enumerate_from 0 holes) (All-weaker (IsPlaced holes) (λ a. All (IsClash gap holes) (clash_row gap holes a))
+    (λ a here. All-map (IsClash gap holes) (λ (b : ℕ × Drilled). (a.0, b.0)) (filter (clash_test gap a) (enumerate_from 0 holes)) (λ k d h.
     let b = get_or (filter (clash_test gap a) (enumerate_from 0 holes)) k d in
     let there : IsPlaced holes b = All-filter (clash_test gap a) (IsPlaced holes) (enumerate_from 0 holes) placed k d h in
     let tests = both_true (nat_lt a.0 b.0) (are_clear gap a.1.hole b.1.hole) (filter_passes (clash_test gap a) (enumerate_from 0 holes) k d h) in
@@ -134,8 +128,7 @@ gap_pairs_clash gap holes =
       ordered = (let t : nat_lt a.0 b.0 ≡ true = tests.0 in grind (arith, nat_tests));
       inside = there.0;
       near = λ e. ap (λ (x : Drilled). are_clear gap x.hole (get_or holes b.0 e).hole) (sym (here.1 e)) ∙ (ap (λ (x : Drilled). are_clear gap a.1.hole x.hole) (sym (there.1 e)) ∙ tests.1);
-    }))
-    (enumerate_from 0 holes) placed)
+    })) (enumerate_from 0 holes) placed)
 
 -- and each clash is a pair of the definition
 pub clash_is_listed : (gap : ℕ) (holes : List Drilled) (p : ℕ × ℕ) → IsClash gap holes p → Contains (gap_pairs gap holes) p
@@ -146,8 +139,7 @@ clash_is_listed gap (d ∷ ds) p clash =
     let b : ℕ × Drilled = (p.1, get_or (d ∷ ds) p.1 d) in
     let order : nat_lt p.0 p.1 ≡ true = (let h = clash.ordered in grind (arith, nat_tests)) in
     let test : clash_test gap (p.0, get_or (d ∷ ds) p.0 d) (p.1, get_or (d ∷ ds) p.1 d) ≡ true = rw (order, clash.near d) refl in
-    contains_flat_map (clash_row gap (d ∷ ds)) (enumerate_from 0 (d ∷ ds)) (p.0, get_or (d ∷ ds) p.0 d) p
-    (enumerated_at (d ∷ ds) p.0 d (omega (arith, clash.ordered, clash.inside)))
+    contains_flat_map (clash_row gap (d ∷ ds)) (enumerate_from 0 (d ∷ ds)) (p.0, get_or (d ∷ ds) p.0 d) p (enumerated_at (d ∷ ds) p.0 d (omega (arith, clash.ordered, clash.inside)))
     (contains_map (λ (e : ℕ × Drilled). (p.0, e.0)) (filter (clash_test gap (p.0, get_or (d ∷ ds) p.0 d)) (enumerate_from 0 (d ∷ ds))) (p.1, get_or (d ∷ ds) p.1 d)
     (contains_filter (clash_test gap (p.0, get_or (d ∷ ds) p.0 d)) (enumerate_from 0 (d ∷ ds)) (p.1, get_or (d ∷ ds) p.1 d) (enumerated_at (d ∷ ds) p.1 d clash.inside) test))
 
@@ -159,8 +151,7 @@ clear_flips gap a b =
     let sum : a.radius + b.radius + gap ≡ b.radius + a.radius + gap = omega arith in
     let x = max_flips (positive_part (int_min b.from.x b.to.x -ℤ int_max a.from.x a.to.x)) (positive_part (int_min a.from.x a.to.x -ℤ int_max b.from.x b.to.x)) in
     let y = max_flips (positive_part (int_min b.from.y b.to.y -ℤ int_max a.from.y a.to.y)) (positive_part (int_min a.from.y a.to.y -ℤ int_max b.from.y b.to.y)) in
-    ap (λ n. nat_le (square n) (square_of_cores a b)) sum
-    ∙ (ap (λ n. nat_le (square (b.radius + a.radius + gap)) (square n + square (range_distance a.from.y a.to.y b.from.y b.to.y))) x
+    ap (λ n. nat_le (square n) (square_of_cores a b)) sum ∙ (ap (λ n. nat_le (square (b.radius + a.radius + gap)) (square n + square (range_distance a.from.y a.to.y b.from.y b.to.y))) x
     ∙ ap (λ n. nat_le (square (b.radius + a.radius + gap)) (square (range_distance b.from.x b.to.x a.from.x a.to.x) + square n)) y)
 
 -- two holes at places that differ and that are not clear, in the order of their places
@@ -196,5 +187,4 @@ pub gaps_listed : (gap : ℕ) (holes : List Drilled) (ps qs rs : List (ℕ × �
 gaps_listed gap holes ps qs rs sound complete moved rises kept none =
     ap (map (λ (p : ℕ × ℕ). Gap p.0 p.1)) (same_rising rs (gap_pairs gap holes) rises (gap_pairs_rise gap holes)
     (λ p h. clash_is_listed gap holes p (sound p (Contains-permutation qs ps p (IsPermutation-sym ps qs moved) (none p h))))
-    (λ p h. kept p (Contains-permutation ps qs p moved (complete p (All-contains (IsClash gap holes) (gap_pairs gap holes) p (gap_pairs_clash gap holes) h)))))
-    ∙ gap_pairs_listed gap holes
+    (λ p h. kept p (Contains-permutation ps qs p moved (complete p (All-contains (IsClash gap holes) (gap_pairs gap holes) p (gap_pairs_clash gap holes) h))))) ∙ gap_pairs_listed gap holes

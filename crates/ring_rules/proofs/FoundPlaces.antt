@@ -7,10 +7,7 @@ use Rattle.ring_rules.proofs.SpotLemmas.{hole_of}
 
 module _ (spots : List Spot) (zone : Zone) where
   pub found_both : (a b c : List ℕ) → AddsFound spots zone a b → AddsFound spots zone b c → AddsFound spots zone a c
-  found_both a b c first second = record {
-    kept = λ i h. second.kept i (first.kept i h);
-    sound = λ i h. elim (second.sound i h) [ inl early ↦ first.sound i early | inr new ↦ inr new ];
-  }
+  found_both a b c first second = record { kept = λ i h. second.kept i (first.kept i h); sound = λ i h. elim (second.sound i h) [ inl early ↦ first.sound i early | inr new ↦ inr new ] }
 
   pub found_one : (a : List ℕ) (q : ℕ) → IsSpotInZone spots zone q → AddsFound spots zone a (a ++ q ∷ [])
   found_one a q goes = record {
@@ -41,8 +38,7 @@ module _ (spots : List Spot) (zone : Zone) where
   -- where the list was empty before, each index is of a spot with its entry point in the zone
   pub all_found : (b : List ℕ) → AddsFound spots zone [] b → All (IsSpotInZone spots zone) b
   all_found b adds =
-      All-from_get_or (IsSpotInZone spots zone) b 0
-      (λ i h. elim (adds.sound (get_or b i 0) (i, h, get_or_default b i (get_or b i 0) 0 h)) [
+      All-from_get_or (IsSpotInZone spots zone) b 0 (λ i h. elim (adds.sound (get_or b i 0) (i, h, get_or_default b i (get_or b i 0) 0 h)) [
         | inl none ↦ absurd (let l = none.1 in omega (arith, l))
         | inr goes ↦ goes
       ])
@@ -61,8 +57,7 @@ module _ (spots : List Spot) (zone : Zone) where
 
     pub all_within : All (IsSpotInZone spots zone) found → All (IsEntryInZone holes zone) places
     all_within each =
-        All-from_get_or (IsEntryInZone holes zone) places 0
-        (λ n h.
+        All-from_get_or (IsEntryInZone holes zone) places 0 (λ n h.
         let early : n < length found = omega (arith, h, size) in
         let goes = All-get_or (IsSpotInZone spots zone) found n 0 early each in
         let of_list = listed.each (get_or found n 0) goes.inside in

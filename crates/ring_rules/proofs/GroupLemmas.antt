@@ -26,8 +26,7 @@ module _ (start : ℕ) (b d : List Spot) (puts : Regroups start b d) where
   has_spot_regrouped k has = elim (cases_lt has.0 start) [
     | inl less ↦ (let inside = has.1 in (has.0, omega (arith, inside, puts.size), ap (λ (t : Spot). t.place) (puts.kept has.0 less) ∙ has.2))
     | inr past ↦ (let inside = has.1 in
-        found_in_rest k (spot_at b has.0) has.2
-        (Contains-permutation (drop start b) (drop start d) (spot_at b has.0) puts.same
+        found_in_rest k (spot_at b has.0) has.2 (Contains-permutation (drop start b) (drop start d) (spot_at b has.0) puts.same
         (subst (Contains (drop start b)) (at_rest start b has.0 default_spot past) (Contains-get_or (drop start b) (has.0 - start) default_spot (omega (arith, past, inside, length-drop start b))))))
   ]
 
@@ -61,10 +60,7 @@ module _ {X : Type 0} (a k : ℕ) (xs ys : List X) (at : a ≤ length xs) (whole
   rest_moves = subst (λ (zs : List X). IsPermutation zs (drop a (put_mid a k xs ys))) rest_is (subst (IsPermutation (mid_of a k xs)) (sym rest_now) same)
 
   kept_before : (i : ℕ) (d : X) → i < a → get_or (put_mid a k xs ys) i d ≡ get_or xs i d
-  kept_before i d h =
-      sym (get_or-take a (put_mid a k xs ys) i d h)
-      ∙ (ap (λ (zs : List X). get_or zs i d) (take-put_mid_below a k xs ys a (omega arith) at)
-      ∙ get_or-take a xs i d h)
+  kept_before i d h = sym (get_or-take a (put_mid a k xs ys) i d h) ∙ (ap (λ (zs : List X). get_or zs i d) (take-put_mid_below a k xs ys a (omega arith) at) ∙ get_or-take a xs i d h)
 
 -- so are the spots that the entries stand for
 module _ (forms : List GridHole) (a k : ℕ) (xs ys : List Entry) (at : a ≤ length xs) (whole : a + k ≡ length xs) (same : IsPermutation (mid_of a k xs) ys) where
@@ -73,8 +69,7 @@ module _ (forms : List GridHole) (a k : ℕ) (xs ys : List Entry) (at : a ≤ le
 
   pub still_have_forms : HaveForms forms xs → HaveForms forms now
   still_have_forms have i h =
-      All-get_or (HasForm forms) now i default_entry h
-      (All-permutation (HasForm forms) xs now (moves a k xs ys at whole same) (All-from_get_or (HasForm forms) xs default_entry have))
+      All-get_or (HasForm forms) now i default_entry h (All-permutation (HasForm forms) xs now (moves a k xs ys at whole same) (All-from_get_or (HasForm forms) xs default_entry have))
 
   spot_now : (i : ℕ) → i < length now → spot_at (map (spot_of forms) now) i ≡ spot_of forms (get_or now i default_entry)
   spot_now i h = get_or-map (spot_of forms) now i default_entry default_spot h
@@ -86,8 +81,7 @@ module _ (forms : List GridHole) (a k : ℕ) (xs ys : List Entry) (at : a ≤ le
   spots_regrouped = record {
     size = length-map now (spot_of forms) ∙ (size ∙ sym (length-map xs (spot_of forms)));
     kept = λ i h.
-        spot_now i (omega (arith, h, at, size))
-        ∙ (ap (spot_of forms) (kept_before a k xs ys at whole same i default_entry h)
+        spot_now i (omega (arith, h, at, size)) ∙ (ap (spot_of forms) (kept_before a k xs ys at whole same i default_entry h)
         ∙ sym (get_or-map (spot_of forms) xs i default_entry default_spot (omega (arith, h, at))));
     same = subst (λ (zs : List Spot). IsPermutation zs (drop a (map (spot_of forms) now))) (sym (drop-map (spot_of forms) a xs))
         (subst (IsPermutation (map (spot_of forms) (drop a xs))) (sym (drop-map (spot_of forms) a now))

@@ -28,15 +28,13 @@ kept_unless false false t kept passed tried = refl
 module _ {S : Type 0} (gives : S → Bool) (pads : List S) (n : ℕ) (pad : S) (h : n < length pads) (is : pad ≡ get_or pads n pad) where
   any_more : list_any gives (take (n + 1) pads) ≡ (list_any gives (take n pads) || gives pad)
   any_more =
-      ap (list_any gives) (take_more pads n pad h)
-      ∙ (list_any-append gives (take n pads) (get_or pads n pad ∷ [])
+      ap (list_any gives) (take_more pads n pad h) ∙ (list_any-append gives (take n pads) (get_or pads n pad ∷ [])
       ∙ (ap (λ (q : S). list_any gives (take n pads) || (gives q || false)) (sym is) ∙ ap (λ (b : Bool). list_any gives (take n pads) || b) (or_false (gives pad))))
 
   pub marked_by_more : (first was now : Bool) → was ≡ (first && not (list_any gives (take n pads))) → (now ≡ true → was ≡ true) → (was ≡ true → now ≡ false → gives pad ≡ true) → (now ≡ true → gives pad ≡ false)
       → now ≡ (first && not (list_any gives (take (n + 1) pads)))
   marked_by_more first was now before kept passed tried =
-      kept_unless now was (gives pad) kept passed tried
-      ∙ (ap (λ (b : Bool). b && not (gives pad)) before
+      kept_unless now was (gives pad) kept passed tried ∙ (ap (λ (b : Bool). b && not (gives pad)) before
       ∙ (and_nor first (list_any gives (take n pads)) (gives pad) ∙ ap (λ (b : Bool). first && not b) (sym any_more)))
 
 module _ {S : Type 0} (covers : S → GridPoint → ℕ → Bool) (profile : Profile) (ring layer : ℕ) where
@@ -54,8 +52,7 @@ module _ {S : Type 0} (covers : S → GridPoint → ℕ → Bool) (profile : Pro
         → ((i : ℕ) → i < length spots → is_marked after i ≡ (is_marked before i && not (list_any (gives_ring covers profile ring (spot_at spots i).hole) more)))
         → (i : ℕ) → i < length spots → is_marked after i ≡ is_ring_finding covers profile ring layer (pads ++ more) (drilled_at holes (spot_at spots i).place)
     marked_more before after pads more was now i h =
-        now i h
-        ∙ (ap (λ (m : Bool). m && not (list_any (gives_ring covers profile ring (spot_at spots i).hole) more)) (was i h)
+        now i h ∙ (ap (λ (m : Bool). m && not (list_any (gives_ring covers profile ring (spot_at spots i).hole) more)) (was i h)
         ∙ (ap (λ (g : GridHole). is_ring_finding covers profile ring layer pads (drilled_at holes (spot_at spots i).place) && not (list_any (gives_ring covers profile ring g) more)) (listed.each i h).same
         ∙ lacks_among_more (drilled_at holes (spot_at spots i).place) pads more))
 
@@ -66,9 +63,7 @@ marked_places test holes spots listed lacking size put =
     same_lists lacking (map test holes) (size ∙ sym (length-map holes test)) (λ k d h.
     let inside : k < length holes = omega (arith, h, size) in
     let has = listed.all k inside in
-    get_or_default lacking k d false h
-    ∙ (subst (λ (n : ℕ). is_marked lacking n ≡ test (drilled_at holes n)) has.2 (put has.0 has.1)
-    ∙ sym (get_or-map test holes k default_hole d inside)))
+    get_or_default lacking k d false h ∙ (subst (λ (n : ℕ). is_marked lacking n ≡ test (drilled_at holes n)) has.2 (put has.0 has.1) ∙ sym (get_or-map test holes k default_hole d inside)))
 
 -- one spot more that puts its mark at its place
 pub put_more : (spots : List Spot) (own marks : List Bool) (n place : ℕ) → place ≡ (spot_at spots n).place → place < length marks → (test : ℕ → Bool) → is_marked own n ≡ test (spot_at spots n).place

@@ -12,6 +12,9 @@ stays_false true true e f = refl
 stays_false true false e f = absurd cc
 stays_false false t e f = absurd cc
 
+pub removes_none : (test : ℕ → Bool) (a : List Bool) → RemovesMarks test a a
+removes_none test a = record { size = refl; kept = λ k e. e; passed = λ k e f. absurd (let g : true ≡ false = sym e ∙ f in cc) }
+
 pub removes_both : (test : ℕ → Bool) (a b c : List Bool) → RemovesMarks test a b → RemovesMarks test b c → RemovesMarks test a c
 removes_both test a b c first second = record {
   size = second.size ∙ first.size;

@@ -17,6 +17,5 @@ rings_name_places covers profile ring layers holes =
 
 pub gaps_name_places : GapsNamePlaces
 gaps_name_places gap layers holes =
-    subst (All (NamesPlaces layers (length holes))) (gap_pairs_listed gap holes)
-    (All-map (NamesPlaces layers (length holes)) (λ (p : ℕ × ℕ). Gap p.0 p.1) (gap_pairs gap holes)
+    subst (All (NamesPlaces layers (length holes))) (gap_pairs_listed gap holes) (All-map (NamesPlaces layers (length holes)) (λ (p : ℕ × ℕ). Gap p.0 p.1) (gap_pairs gap holes)
     (All-weaker (IsClash gap holes) (λ (p : ℕ × ℕ). (p.0 < p.1) × (p.1 < length holes)) (λ p clash. (clash.ordered, clash.inside)) (gap_pairs gap holes) (gap_pairs_clash gap holes)))

@@ -21,13 +21,12 @@ near_from_test gap a b e =
 
 -- a range that ends less than so far before another one starts no more than its own length further away
 pub starts_near : (a b c d : ℤ) (far margin : ℕ) → range_distance a b c d < far → far + abs_diff a b ≤ margin → ((int_min c d -ℤ pos margin) ≤ℤ a) × (a ≤ℤ (int_max c d +ℤ pos margin))
-starts_near a b c d far margin near fits =
-    (low (int_min c d) a b far margin (omega (arith, near)) fits, high (int_max c d) a b far margin (omega (arith, near)) fits) where
-      low : (l a b : ℤ) (far margin : ℕ) → positive_part (l -ℤ int_max a b) < far → far + abs_diff a b ≤ margin → (l -ℤ pos margin) ≤ℤ a
-      low l a b far margin h k = omega (arith, ints, clamps, positive_part_is (l -ℤ int_max a b))
+starts_near a b c d far margin near fits = (low (int_min c d) a b far margin (omega (arith, near)) fits, high (int_max c d) a b far margin (omega (arith, near)) fits) where
+  low : (l a b : ℤ) (far margin : ℕ) → positive_part (l -ℤ int_max a b) < far → far + abs_diff a b ≤ margin → (l -ℤ pos margin) ≤ℤ a
+  low l a b far margin h k = omega (arith, ints, clamps, positive_part_is (l -ℤ int_max a b))
 
-      high : (g a b : ℤ) (far margin : ℕ) → positive_part (int_min a b -ℤ g) < far → far + abs_diff a b ≤ margin → a ≤ℤ (g +ℤ pos margin)
-      high g a b far margin h k = omega (arith, ints, clamps, positive_part_is (int_min a b -ℤ g))
+  high : (g a b : ℤ) (far margin : ℕ) → positive_part (int_min a b -ℤ g) < far → far + abs_diff a b ≤ margin → a ≤ℤ (g +ℤ pos margin)
+  high g a b far margin h k = omega (arith, ints, clamps, positive_part_is (int_min a b -ℤ g))
 
 -- no core is nearer than nothing
 pub none_within : (gap far : ℤ) (a b : GridHole) → (pos (a.radius + b.radius) +ℤ gap) ≤ℤ far → far ≤ℤ pos 0 → AreNearer gap a b → ⊥

@@ -110,13 +110,11 @@ module _ {S W : Type 0} (covers : S → GridPoint → ℕ → Bool) (wide : W �
       let inside : layer.0 < length layers = omega (arith, in_more, among.as_many) in
       let here = strict_wants layer.0 hole.1 inside (subst (λ (pads : List W). is_ring_finding wide Wide ring layer.0 pads hole.1 ≡ true) same wants) in
       let at : hole.1 ≡ get_or holes hole.0 hole.1 = placed.1 hole.1 in
-      by_kind layer.0 hole.0 hole.1 (is_oblique hole.1.hole) refl
-      (subst (λ (d : Drilled). Contains (ring_findings covers Strict ring layers holes) (finding_of Strict layer.0 (hole.0, d))) (sym at)
+      by_kind layer.0 hole.0 hole.1 (is_oblique hole.1.hole) refl (subst (λ (d : Drilled). Contains (ring_findings covers Strict ring layers holes) (finding_of Strict layer.0 (hole.0, d))) (sym at)
       (ring_found covers Strict ring layers holes layer.0 hole.0 hole.1 inside placed.0 (subst (λ (d : Drilled). is_ring_finding covers Strict ring layer.0 (get_or layers layer.0 []) d ≡ true) at here)))
 
   in_strict : (l h : ℕ) → Contains (ring_findings wide Wide ring more holes) (Ring l h) → HasEither l h
-  in_strict l h found =
-      All-contains IsInStrict (ring_findings wide Wide ring more holes) (Ring l h) (all_found wide Wide ring more holes IsInStrict each_in_strict) found
+  in_strict l h found = All-contains IsInStrict (ring_findings wide Wide ring more holes) (Ring l h) (all_found wide Wide ring more holes IsInStrict each_in_strict) found
 
 pub wide_no_more : {S W : Type 0} (covers : S → GridPoint → ℕ → Bool) (wide : W → GridPoint → ℕ → Bool) → WideFindsNoMore covers wide
 wide_no_more covers wide into ring layers more holes l h among = in_strict covers wide into ring layers more holes among l h

@@ -34,8 +34,7 @@ pairs_none R i j d h k = absurd (omega (arith, k))
 pub pairs_append : {X : Type 0} (R : X → X → Type 0) (xs ys : List X) → AllPairs R xs → AllPairs R ys → All (λ x. All (R x) ys) xs → AllPairs R (xs ++ ys)
 pairs_append R [] ys up up' across = up'
 pairs_append {X} R (x ∷ xs) ys up up' across =
-    AllPairs-cons R x (xs ++ ys)
-    (All-append (R x) xs ys (pairs_head R x xs up) (All-head (λ (z : X). All (R z) ys) x xs across))
+    AllPairs-cons R x (xs ++ ys) (All-append (R x) xs ys (pairs_head R x xs up) (All-head (λ (z : X). All (R z) ys) x xs across))
     (pairs_append R xs ys (pairs_tail R x xs up) up' (All-tail (λ (z : X). All (R z) ys) x xs across))
 
 pub pairs_map : {X Y : Type 0} (R : Y → Y → Type 0) (f : X → Y) (xs : List X) → AllPairs (λ x y. R (f x) (f y)) xs → AllPairs R (map f xs)

@@ -57,8 +57,7 @@ module _ {S : Type 0} (covers : S → GridPoint → ℕ → Bool) (profile : Pro
       (and_false_right (d.plated && is_in_span l d.span) (lacks_ring covers profile ring (get_or layers l []) d.hole) (both_so d.plated (is_in_span l d.span) plated through) here)
 
 pub straight : {S : Type 0} (covers : S → GridPoint → ℕ → Bool) → StraightWithoutFindings covers
-straight covers ring layers holes none l d in_layers in_holes plated through =
-    not_oblique_along d.hole (not_lacking covers Strict ring layers holes l d none in_layers in_holes plated through).0
+straight covers ring layers holes none l d in_layers in_holes plated through = not_oblique_along d.hole (not_lacking covers Strict ring layers holes l d none in_layers in_holes plated through).0
 
 pub slots_held : {S : Type 0} (points : S → GridPoint → Type 0) (covers : S → GridPoint → ℕ → Bool) → ContainsCoveredSlots points covers → SlotsHoldWithoutFindings points covers
 slots_held points covers holds profile ring layers holes none l d in_layers in_holes plated through along =
@@ -84,8 +83,7 @@ holes_held points covers holds profile ring layers holes none l d in_layers in_h
 
 pub apart : ApartWithoutFindings
 apart gap holes none i j d first inside =
-    let at_first : hole_findings gap holes i (get_or holes i d) ≡ [] =
-    none_placed (λ hole. hole_findings gap holes hole.0 hole.1) holes none i d (omega (arith, first, inside)) in
+    let at_first : hole_findings gap holes i (get_or holes i d) ≡ [] = none_placed (λ hole. hole_findings gap holes hole.0 hole.1) holes none i d (omega (arith, first, inside)) in
     let tests : filter (λ hole. nat_lt i hole.0 && not (are_clear gap (get_or holes i d).hole hole.1.hole)) (enumerate_from 0 holes) ≡ [] = map_is_nil _ _ at_first in
     let fails : (nat_lt i j && not (are_clear gap (get_or holes i d).hole (get_or holes j d).hole)) ≡ false =
     fails_placed (λ hole. nat_lt i hole.0 && not (are_clear gap (get_or holes i d).hole hole.1.hole)) holes tests j d inside in

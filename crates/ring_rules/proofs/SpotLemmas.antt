@@ -3,8 +3,7 @@ use Rattle.ring_rules.proofs.Common.{◌≡◌, ℕ, ◌+◌, ◌*◌, ◌<◌, 
 use Rattle.std.proofs.lemmas.Nat.{mul-le}
 
 pub has_spot_still : (a b : List Spot) → length a ≤ length b → ((i : ℕ) → i < length a → spot_at b i ≡ spot_at a i) → (k : ℕ) → HasSpot a k → HasSpot b k
-has_spot_still a b longer kept k has =
-    let inside = has.1 in (has.0, omega (arith, inside, longer), ap (λ (s : Spot). s.place) (kept has.0 has.1) ∙ has.2)
+has_spot_still a b longer kept k has = let inside = has.1 in (has.0, omega (arith, inside, longer), ap (λ (s : Spot). s.place) (kept has.0 has.1) ∙ has.2)
 
 -- the hole of a spot, by the place that it has
 pub hole_of : (holes : List Drilled) (spots : List Spot) → AreSpotsOf holes spots → (i k : ℕ) → i < length spots → (spot_at spots i).place ≡ k → (spot_at spots i).hole ≡ hole_at holes k
@@ -146,6 +145,10 @@ module _ (x y : Axis) (holes : List Drilled) (count : ℕ) (starts : List ℕ) (
 
 pub in_last_row : (row last width right : ℕ) → row ≤ last → right ≤ width → row * width + right < (last + 1) * width + 1
 in_last_row row last width right h k = let m = mul-le row width last width h (omega arith) in omega (arith, m, k)
+
+-- a column of a row of some cells, or the one after the last column
+pub in_cells_of : (x y : Axis) (row column count : ℕ) → row ≤ y.last → column ≤ x.last + 1 → count ≡ (y.last + 1) * (x.last + 1) + 1 → row * (x.last + 1) + column < count
+in_cells_of x y row column count low within is = let l = in_last_row row y.last (x.last + 1) column low within in omega (arith, l, is)
 
 -- the spots of some columns of a row follow each other
 module _ (x y : Axis) (starts : List ℕ) (spots : List Spot) (cells : AreInCells x y starts spots) (row left right : ℕ) (low : row ≤ y.last) (within : right ≤ x.last + 1) (i : ℕ) (h : i < length spots) (inside : IsInRegion x y row (row + 1) left right (point_at spots i)) where

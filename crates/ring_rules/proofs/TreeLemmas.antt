@@ -12,10 +12,6 @@ pub not_is_true : (b : Bool) → not b ≡ true → b ≡ false
 not_is_true true e = absurd cc
 not_is_true false e = refl
 
--- where no mark is left, none passes
-pub none_passes : (test : ℕ → Bool) (start end : ℕ) (marks : List Bool) → HasNoMarkFrom start end marks → NoMarkPassesFrom test start end marks
-none_passes test start end marks none i from below marked = absurd (let e : true ≡ false = sym marked ∙ none i from below in cc)
-
 -- two runs, of which the second begins where the first ends, or before
 pub passes_both : (test : ℕ → Bool) (start middle from end : ℕ) (a b : List Bool) → RemovesMarks test a b → from ≤ middle → NoMarkPassesFrom test start middle a → NoMarkPassesFrom test from end b → NoMarkPassesFrom test start end b
 passes_both test start middle from end a b removes less before here i at below marked = elim (cases_lt i middle) [
@@ -54,10 +50,6 @@ module _ (spots : List Spot) where
     | inl less ↦ in_first (point_at spots k) (first k from less)
     | inr more ↦ in_second (point_at spots k) (second k more below)
   ]
-
-  -- a node without spots
-  pub empty_node : (at : ℕ) (zone : Zone) → IsNode spots at (record { run = record { start = 0; end = 0 }; zone = zone; end = at + 1 })
-  empty_node at zone = record { within = omega arith; more = omega arith; holds = λ k from below. absurd (omega (arith, below)) }
 
   module _ (nodes : List Node) (at : ℕ) (node : Node) (are : AreNodes spots nodes) (is : IsNode spots at node) where
     pub nodes_pushed : length nodes ≡ at → AreNodes spots (nodes ++ node ∷ [])

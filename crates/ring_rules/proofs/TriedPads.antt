@@ -32,5 +32,4 @@ marked_by_coverings covers profile ring spots before after more now i h =
 -- so it is with more pads of the same type
 pub tried_more : {S : Type 0} (covers : S → GridPoint → ℕ → Bool) (holes : List Drilled) (layer : ℕ) (pads more : List S) (index : RingIndex) (search : LayerSearch)
     → HasTriedCoverings holes layer (map covers pads ++ map covers more) index search → HasTried covers holes layer (pads ++ more) index search
-tried_more covers holes layer pads more index search =
-    subst (λ (coverings : List Covering). HasTriedCoverings holes layer coverings index search) (sym (map-append covers pads more))
+tried_more covers holes layer pads more index search = subst (λ (coverings : List Covering). HasTriedCoverings holes layer coverings index search) (sym (map-append covers pads more))

@@ -1,6 +1,6 @@
 //! The holes of a board in the order of their cells, so that what is near on the board is near in memory.
 
-ghost use Rattle.std.specs.Prelude.{◌≡◌, ℕ, [], ◌∷◌, ◌+◌, ◌*◌, ◌<◌, ◌≤◌, IfOk, OnOk, length, get_or};
+ghost use Rattle.std.specs.Prelude.{◌≡◌, ℕ, [], ◌+◌, ◌*◌, ◌<◌, ◌≤◌, IfOk, OnOk, length, get_or};
 ghost use Rattle.ring_rules.specs.Places.{IsChained};
 ghost use Rattle.ring_rules.specs.Cells.{cell_of, cell_at};
 ghost use Rattle.ring_rules.specs.Spots.{point_at, HasSpot, AreSpotsOf, AreInCells};
@@ -111,10 +111,11 @@ fn push_cells(
     spots: &mut SpotList,
 ) -> Result<(), AllocError>
     requires chained { IsChained (cell_at chains.now.x chains.now.y holes.now) (length holes.now) chains.now.head.items chains.now.next.items }
-    requires starts { starts.old.items ≡ 0 ∷ [] }
+    requires starts { starts.old.items ≡ [] }
     requires spots { spots.old ≡ [] }
     ensures { OnOk result (AreSpotted (cell_of chains.now.x chains.now.y) holes.now (length chains.now.head.items) starts.new.items spots.new) }
 {
+    starts.push(0)?;
     for cell in 0..chains.head.len() {
         push_cell(chains, holes, cell, spots)?;
         let start = narrow(spots.len())?;
@@ -131,7 +132,6 @@ pub(crate) fn spotted(alloc: Global, chains: Chains, holes: &[Drilled]) -> Resul
 {
     let mut starts = Vec::with_capacity(alloc, chains.head.len() + 1)?;
     let mut spots = SpotList::with_capacity(alloc, holes.len())?;
-    starts.push(0)?;
     push_cells(&chains, holes, &mut starts, &mut spots)?;
     Ok(Cells {
         x: chains.x,

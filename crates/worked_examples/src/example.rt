@@ -313,8 +313,7 @@ fn escaped(byte: u8) -> u8 {
 
 /// The bytes of a text in which `\n`, `\t`, `\r` and `\s` stand for a line feed, a tab, a carriage return and a space.
 fn unescaped(alloc: Global, text: &str) -> Result<Vec<u8>, AllocError> {
-    let mut bytes = Vec::new(alloc);
-    let mut is_escape = false;
+    let (mut bytes, mut is_escape) = (Vec::new(alloc), false);
     for byte in text.bytes() {
         if !is_escape && byte == b'\\' {
             is_escape = true;

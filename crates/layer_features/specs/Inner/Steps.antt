@@ -1,5 +1,5 @@
 -- Steps of the definitions, as the functions of this crate take them.
-use Rattle.std.specs.Prelude.{◌≡◌, ℕ, Bool, not, List, [], reverse, Option, None, Some, is_some, option_and_then, if◌then◌else◌}
+use Rattle.std.specs.Prelude.{◌≡◌, ℕ, Bool, true, false, not, List, [], reverse, Option, None, Some, is_some, option_and_then, if◌then◌else◌}
 use Rattle.std.specs.Bool.{MatchBool}
 use Rattle.std.specs.List.{after_last, list_any, prefix_len}
 use Rattle.grid_units.specs.Points.{GridPoint}
@@ -30,9 +30,10 @@ in_last_region positions = after_last (λ p. starts_region p.1) positions
 abbrev pub is_no_move : Part → Bool
 is_no_move p = not (is_move p)
 
--- how many moves stand first
-abbrev pub leading_moves : List Part → ℕ
-leading_moves parts = prefix_len is_move parts
+-- a part is a move, or is none
+abbrev pub is_move_or_none : Bool → Part → Bool
+is_move_or_none true = is_move
+is_move_or_none false = is_no_move
 
 -- how many parts that are no moves stand first
 abbrev pub leading_sides : List Part → ℕ

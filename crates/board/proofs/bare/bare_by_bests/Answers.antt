@@ -1,4 +1,4 @@
-use Rattle.board.proofs.Common.{◌≡◌, Bool, List, Option, map, sym, subst, ◌∙◌, IfOk-weaker, AreBare, has_no_best_pad, BestPad}
+use Rattle.board.proofs.Common.{◌≡◌, map, sym, subst, ◌∙◌, IfOk-weaker, AreBare, has_no_best_pad}
 use Rattle.board.proofs.BareLemmas.{bare_by_bests}
 use Rattle.board.proofs.bare.bare_by_bests.Goals as goal
 

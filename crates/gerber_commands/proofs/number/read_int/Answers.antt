@@ -23,3 +23,9 @@ returns-clause-value c =
     let read = read_ok run c.without_sign-digits.result.now c.repeat_len.result n c.without_sign-digits.ensures (sym c.is_digits.ensures ∙ c.if-not-is_digits.false) c.repeat_len.ensures.len c.if-significant_digits-gt12.false c.value_of.ensures.value in
     let fits : to_z w64 (of_z w64 c.signed-2.result) ≡ c.signed-2.result = search (rules, to_z-of_z) in
     ap (λ (z : ℤ). Ok z) (fits ∙ (c.signed-2.ensures.value ∙ ap (λ t. cond t (neg_ℤ (pos n)) (pos n)) c.is_negative-2.ensures)) ∙ sym read
+
+pub returns-then-len-digits-clause-kept : goal.returns-then-len-digits-clause-kept
+returns-then-len-digits-clause-kept c = let fits : to_z w64 (of_z w64 c.signed.result) ≡ c.signed.result = search (rules, to_z-of_z) in λ e. c.signed.ensures.kept (sym fits ∙ e)
+
+pub returns-clause-kept : goal.returns-clause-kept
+returns-clause-kept c = let fits : to_z w64 (of_z w64 c.signed-2.result) ≡ c.signed-2.result = search (rules, to_z-of_z) in λ e. c.signed-2.ensures.kept (sym fits ∙ e)

@@ -8,8 +8,8 @@ after (p ∷ ps) first b is moves e = e ∙ (λ i. if sym (ap is_move is ∙ mov
 
 pub returns-in-Some : goal.returns-in-Some
 returns-in-Some c =
-    after c.args.parts.now c.first-item.result _ (sym c.first-item.is) (sym c.is_move.ensures ∙ c.if-not-is_move.false)
-    (c.starts_no_polygon.ensures ∙ ap starts_no_polygon c.deref.ensures.value ∙ (λ i. option_map_or starts_no_polygon (((λ j. option_map (λ ps. ps.items) (sym c.in-Some.is j)) ∙ c.in_ok-points.ensures) i) false))
+    after c.args.parts.now c.first-item.result _ (sym c.first-item.is) (sym c.is_move.ensures ∙ c.if-is_move.true)
+    (c.starts_no_polygon.ensures ∙ ap starts_no_polygon c.deref.ensures.value ∙ (λ i. option_map_or starts_no_polygon (((λ j. option_map (λ ps. ps.items) (sym c.in-Some.is j)) ∙ c.in_ok-points-in-len1-up.ensures) i) false))
 
 pub returns-in-None : goal.returns-in-None
-returns-in-None c = after c.args.parts.now c.first-item.result _ (sym c.first-item.is) (sym c.is_move.ensures ∙ c.if-not-is_move.false) (λ i. option_map_or starts_no_polygon (((λ j. option_map (λ ps. ps.items) (sym c.in-None.is j)) ∙ c.in_ok-points.ensures) i) false)
+returns-in-None c = after c.args.parts.now c.first-item.result _ (sym c.first-item.is) (sym c.is_move.ensures ∙ c.if-is_move.true) (λ i. option_map_or starts_no_polygon (((λ j. option_map (λ ps. ps.items) (sym c.in-None.is j)) ∙ c.in_ok-points-in-len1-up.ensures) i) false)

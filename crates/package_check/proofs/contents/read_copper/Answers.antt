@@ -21,8 +21,8 @@ returns-else-layer-clause-copper c = λ profile text stands.
     let same : c.profile-profile.result ≡ profile = c.profile-profile.ensures profile of [] text stands in
     let none = none_left (has_forgotten c.args.reader) in
     let read = subst (λ (left : List WidePad). ReadsKeptIn profile of left text (Ok c.in_ok-image.image)) (sym none) (c.in_ok-image.ensures.exact profile of [] text stands) in
-    let has = subst (λ (q : Profile). HasLayerView q text c.in_ok-layer.layer) same (c.in_ok-layer.ensures.view text (subst (λ (q : Profile). ReadsKeptIn q of [] text (Ok c.in_ok-image.image)) (sym same) read)) in
-    subst (λ (e : Fail). Answers {T = Content} (λ x. x) (ReadsCopper profile text) (Err e)) (sym c.refusal.ensures) (inr (c.in_ok-layer.layer, has, sym (ap (λ (v : LayerView). v.is_copper) c.layer.view_is) ∙ c.if-layer.false, refl))
+    let has = subst (λ (q : Profile). HasLayerView q text c.in-Ok.layer) same (c.in-Ok.ensures.view text (subst (λ (q : Profile). ReadsKeptIn q of [] text (Ok c.in_ok-image.image)) (sym same) read)) in
+    subst (λ (e : Fail). Answers {T = Content} (λ x. x) (ReadsCopper profile text) (Err e)) (sym c.refusal.ensures) (inr (c.in-Ok.layer, has, sym (ap (λ (v : LayerView). v.is_copper) c.layer.view_is) ∙ c.if-layer.false, refl))
 
 pub returns-then-layer-clause-copper : goal.returns-then-layer-clause-copper
 returns-then-layer-clause-copper c = λ profile text stands.
@@ -30,7 +30,7 @@ returns-then-layer-clause-copper c = λ profile text stands.
     let same : c.profile-profile.result ≡ profile = c.profile-profile.ensures profile of [] text stands in
     let none = none_left (has_forgotten c.args.reader) in
     let read = subst (λ (left : List WidePad). ReadsKeptIn profile of left text (Ok c.in_ok-image.image)) (sym none) (c.in_ok-image.ensures.exact profile of [] text stands) in
-    (subst (λ (q : Profile). HasLayerView q text c.in_ok-layer.layer) same (c.in_ok-layer.ensures.view text (subst (λ (q : Profile). ReadsKeptIn q of [] text (Ok c.in_ok-image.image)) (sym same) read)), sym (ap (λ (v : LayerView). v.is_copper) c.layer.view_is) ∙ c.if-layer.true)
+    (subst (λ (q : Profile). HasLayerView q text c.in-Ok.layer) same (c.in-Ok.ensures.view text (subst (λ (q : Profile). ReadsKeptIn q of [] text (Ok c.in_ok-image.image)) (sym same) read)), sym (ap (λ (v : LayerView). v.is_copper) c.layer.view_is) ∙ c.if-layer.true)
 
 pub returns-then-layer-clause-flashes : goal.returns-then-layer-clause-flashes
 returns-then-layer-clause-flashes c = λ profile text stands keeps.
@@ -38,7 +38,7 @@ returns-then-layer-clause-flashes c = λ profile text stands keeps.
     let same : c.profile-profile.result ≡ profile = c.profile-profile.ensures profile of [] text stands in
     let none = none_left (has_forgotten c.args.reader) in
     let read = subst (λ (left : List WidePad). ReadsKeptIn profile of left text (Ok c.in_ok-image.image)) (sym none) (c.in_ok-image.ensures.exact profile of [] text stands) in
-    subst (λ (q : Profile). HasShown q text c.view.new.shown) same (c.in_ok-layer.ensures.rows text (subst (λ (q : Profile). ReadsKeptIn q of [] text (Ok c.in_ok-image.image)) (sym same) read) keeps)
+    subst (λ (q : Profile). HasShown q text c.view.new.shown) same (c.in-Ok.ensures.rows text (subst (λ (q : Profile). ReadsKeptIn q of [] text (Ok c.in_ok-image.image)) (sym same) read) keeps)
 
 pub returns-then-layer-clause-drawn : goal.returns-then-layer-clause-drawn
 returns-then-layer-clause-drawn c = λ profile text stands draws.
@@ -46,4 +46,4 @@ returns-then-layer-clause-drawn c = λ profile text stands draws.
     let same : c.profile-profile.result ≡ profile = c.profile-profile.ensures profile of [] text stands in
     let none = none_left (has_forgotten c.args.reader) in
     let read = subst (λ (left : List WidePad). ReadsKeptIn profile of left text (Ok c.in_ok-image.image)) (sym none) (c.in_ok-image.ensures.exact profile of [] text stands) in
-    subst (λ (q : Profile). Draws q text c.view.new.shown.drawn.items) same (c.in_ok-layer.ensures.drawn text (subst (λ (q : Profile). ReadsKeptIn q of [] text (Ok c.in_ok-image.image)) (sym same) read) draws)
+    subst (λ (q : Profile). Draws q text c.view.new.shown.drawn.items) same (c.in-Ok.ensures.drawn text (subst (λ (q : Profile). ReadsKeptIn q of [] text (Ok c.in_ok-image.image)) (sym same) read) draws)

@@ -1,4 +1,4 @@
-use Rattle.package_check.proofs.Common.{◌∙◌, ap, refl, subst, sym, true, false, ◌&&◌, ◌+◌, ltb, map, count_by, Setting, is_copper, is_kind, TakesThose, setting_of, is_kind_at, Profile, PackageReader}
+use Rattle.package_check.proofs.Common.{◌∙◌, ap, refl, subst, sym, ◌&&◌, ◌+◌, ltb, map, count_by, Setting, is_copper, is_kind, TakesThose, setting_of, is_kind_at, Profile, PackageReader}
 use Rattle.package_check.proofs.TakeSteps.{OfReader, kind_all, kind_left, kind_none, kind_taken}
 use Rattle.package_check.proofs.package.take_kind.Goals as goal
 use Rattle.package_check.proofs.package.take_kind.Goals.{then-is_kind+in_ok-give, else-is_kind}

@@ -4,7 +4,6 @@ use Rattle.ring_rules.proofs.cores.core_distance_x.Goals as goal
 
 pub returns-clause-in_range : goal.returns-clause-in_range
 returns-clause-in_range c =
-    subst (λ (n : ℕ). n ≤ 20000000000000) (sym c.range_distance.ensures)
-    (range_distance_in_range (passed c.x.result) (passed c.x-2.result) (passed c.x-3.result) (passed c.x-4.result)
+    subst (λ (n : ℕ). n ≤ 20000000000000) (sym c.range_distance.ensures) (range_distance_in_range (passed c.x.result) (passed c.x-2.result) (passed c.x-3.result) (passed c.x-4.result)
     (passed_coordinate c.x.result c.x.ensures.in_range, passed_coordinate c.x-2.result c.x-2.ensures.in_range)
     (passed_coordinate c.x-3.result c.x-3.ensures.in_range, passed_coordinate c.x-4.result c.x-4.ensures.in_range))

@@ -16,8 +16,7 @@ loop-i-preserved c =
     }
 
 pub returns-clause-adds : goal.returns-clause-adds
-returns-clause-adds c =
-    found_both c.args.cells.now.spots c.args.zone.now c.args.found.now.items c.loop-i.found.items c.add_run.new.found.items c.loop-i.invariant.adds c.in_ok-add_run.ensures.adds
+returns-clause-adds c = found_both c.args.cells.now.spots c.args.zone.now c.args.found.now.items c.loop-i.found.items c.add_run.new.found.items c.loop-i.invariant.adds c.in_ok-add_run.ensures.adds
 
 pub returns-clause-listed : goal.returns-clause-listed
 returns-clause-listed c = λ k from below. elim (cases_lt k c.loop-i.start) [

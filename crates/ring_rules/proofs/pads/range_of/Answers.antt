@@ -11,9 +11,4 @@ returns-in-None-clause-holds g c = λ p r less e.
     let fits_right : to_z w64 (of_z w64 c.right.result) ≡ c.right.result = search (rules, to_z-of_z) in
     let from : c.place-left.result ≡ place_of c.args.x.now (g.S.PadShape.left c.args.pad.now) = c.place-left.ensures.value ∙ ap (place_of c.args.x.now) (fits_left ∙ c.left.ensures) in
     let to : c.place-last_column.result ≡ place_of c.args.x.now (g.S.PadShape.right c.args.pad.now) = c.place-last_column.ensures.value ∙ ap (place_of c.args.x.now) (fits_right ∙ c.right.ensures) in
-    record {
-      row_from = omega arith;
-      row_below = omega arith;
-      column_from = omega (arith, first, from);
-      column_below = omega (arith, last, to);
-    }
+    record { row_from = omega arith; row_below = omega arith; column_from = omega (arith, first, from); column_below = omega (arith, last, to) }

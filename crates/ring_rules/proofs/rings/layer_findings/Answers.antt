@@ -12,8 +12,7 @@ loop-hole-preserved c =
     λ test e b is. sym (get_or-map test c.args.holes.now k d false c.loop-hole-test.true) ∙ (ap (λ (bs : List Bool). get_or bs k false) (sym e) ∙ is) in
     elim c.if-lacking-hole.branch [
       | then-lacking-hole+in_ok-push w ↦ λ test e.
-          ap (λ v. v.items) w.findings-is
-          ∙ (w.in_ok-push.ensures.items
+          ap (λ v. v.items) w.findings-is ∙ (w.in_ok-push.ensures.items
           ∙ (ap (λ (f : Finding). c.loop-hole.findings.items ++ f ∷ []) (w.finding_of.ensures ∙ ap (λ (x : Drilled). finding_of c.args.profile c.args.layer (k, x)) (sym at))
           ∙ listed_more (finding_of c.args.profile c.args.layer) (λ (hole : ℕ × Drilled). test hole.1) true _ _ c.args.holes.now k d c.loop-hole-test.true (mark test e true w.if-lacking-hole.true) (c.loop-hole.invariant test e)))
       | else-lacking-hole w ↦ λ test e. ap (λ v. v.items) w.findings-is ∙ listed_more_none (finding_of c.args.profile c.args.layer) (λ (hole : ℕ × Drilled). test hole.1) _ _ c.args.holes.now k d c.loop-hole-test.true (mark test e false w.if-lacking-hole.false) (c.loop-hole.invariant test e)

@@ -20,6 +20,5 @@ loop-layer-preserved g c =
 
 pub returns : goal.returns
 returns g c =
-    c.loop-layer.invariant
-    ∙ ap (flat_map (λ layer. layer_findings g.S.PadShape.covers c.args.rules.profile c.args.rules.ring c.args.holes.now layer.0 layer.1))
+    c.loop-layer.invariant ∙ ap (flat_map (λ layer. layer_findings g.S.PadShape.covers c.args.rules.profile c.args.rules.ring c.args.holes.now layer.0 layer.1))
     (enumerated_all (map (λ (pads : Bor (List g.row.S.Denot)). pads.now) c.args.layers.now) c.loop-layer.layer (omega (arith, length-map c.args.layers.now (λ (pads : Bor (List g.row.S.Denot)). pads.now), c.loop-layer-test.false)))

@@ -46,8 +46,7 @@ pub bounds-holes-place : goal.bounds-holes-place
 bounds-holes-place c = (c.loop-link.invariant.at (c.loop-link.link - 1) (omega (arith, c.loop-link-test.true))).0
 
 pub offset_bounds-holes-place : goal.offset_bounds-holes-place
-offset_bounds-holes-place c =
-    let at = c.loop-link.invariant.at (c.loop-link.link - 1) (omega (arith, c.loop-link-test.true)) in omega (arith, at.0)
+offset_bounds-holes-place c = let at = c.loop-link.invariant.at (c.loop-link.link - 1) (omega (arith, c.loop-link-test.true)) in omega (arith, at.0)
 
 pub bounds-holes-place-in-loop-link : goal.bounds-holes-place-in-loop-link
 bounds-holes-place-in-loop-link c = (c.loop-link.invariant.at (c.loop-link.link - 1) (omega (arith, c.loop-link-test.true))).0

@@ -1,4 +1,4 @@
-use Rattle.ring_rules.proofs.Common.{◌≡◌, ◌+◌, ◌<◌, length, ◌∙◌, arith, Node}
+use Rattle.ring_rules.proofs.Common.{◌≡◌, ◌<◌, length, ◌∙◌, arith, Node}
 use Rattle.ring_rules.proofs.TreeLemmas.{holds_both, nodes_set}
 use Rattle.ring_rules.proofs.tree.+push_tree.Goals as goal
 
@@ -11,8 +11,7 @@ returns-clause-nodes t c =
     let last : c.len-end.result ≡ length c.push_tree-2.new.nodes.items = c.len-end.ensures ∙ c.push_tree-2.new.nodes.ok.0 in
     let low : c.len-at.result < length c.push.new.self.items = omega (arith, same, c.in_ok-push.ensures.len, c.push.new.self.ok.0, c.args.nodes.now.ok.0) in
     let inside : c.len-at.result < length c.push_tree-2.new.nodes.items = omega (arith, low, c.in_ok-first.ensures.longer, c.in_ok-second.ensures.longer) in
-    nodes_set spots c.push_tree-2.new.nodes.items c.len-at.result node c.in_ok-second.ensures.nodes
-    (record {
+    nodes_set spots c.push_tree-2.new.nodes.items c.len-at.result node c.in_ok-second.ensures.nodes (record {
       within = c.requires.within;
       more = omega (arith, inside, last);
       holds = holds_both spots run.start c.parting-middle.result run.end c.in_ok-first.first c.in_ok-second.second c.joined-zone.result c.joined-zone.ensures.first c.joined-zone.ensures.second c.in_ok-first.ensures.zone c.in_ok-second.ensures.zone;

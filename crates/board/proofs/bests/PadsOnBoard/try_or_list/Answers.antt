@@ -1,4 +1,5 @@
-use Rattle.board.proofs.Common.{ℕ, inl, inr, List, get_or, sym, subst, Contains, get_or_default, AreAllCovered}
+use Rattle.board.proofs.Common.{ℕ, ◌<◌, length, All, inl, inr, List, get_or, sym, subst, Contains, get_or_default, AreAllCovered}
+use Rattle.std.proofs.lemmas.List.Elements.{All-push}
 use Rattle.board.proofs.BestPadsLemmas.{all_improve_none, no_better_elsewhere, no_better_outside, one_more, contains_more, contains_last}
 use Rattle.board.proofs.bests.PadsOnBoard.try_or_list.Goals as goal
 
@@ -35,3 +36,7 @@ returns-in_ok-push-clause-tried g c =
     (λ k listed. subst (λ (xs : List ℕ). Contains xs k) (sym c.in_ok-push.ensures.items) (contains_more c.args.large.now.items c.args.place k listed))
     (all_improve_none covers pads holes bests) c.requires.before
     (inl (subst (λ (xs : List ℕ). Contains xs c.args.place) (sym c.in_ok-push.ensures.items) (contains_last c.args.large.now.items c.args.place)))
+
+pub returns-in_ok-push-clause-large : goal.returns-in_ok-push-clause-large
+returns-in_ok-push-clause-large g c =
+    let listed = λ (k : ℕ). k < length c.args.self.now.pads.now in subst (All listed) (sym c.in_ok-push.ensures.items) (All-push listed c.args.large.now.items c.args.place c.requires.large c.requires.place)

@@ -1,4 +1,4 @@
-use Rattle.package_check.proofs.Common.{◌≡◌, ◌++◌, ℕ, List, [], ap, refl, rules, subst, sym, ◌∙◌, append_assoc, err_from_is_err_and, chunks_rest, GridRules, IfFault, ShowsLayerFaultIn, HasTriedPadsOf}
+use Rattle.package_check.proofs.Common.{◌≡◌, ◌++◌, ℕ, List, [], ap, refl, rules, subst, sym, ◌∙◌, append_assoc, err_from_is_err_and, chunks_rest, nil_from_length, GridRules, IfFault, ShowsLayerFaultIn, HasTriedPadsOf}
 use Rattle.std.proofs.Common.{append-nil}
 use Rattle.package_check.proofs.PiecesLemmas.{fault_stays_in_longer}
 use Rattle.package_check.proofs.indexed_holes.IndexedHoles.feed.Goals as goal
@@ -36,3 +36,9 @@ returns-in_err-feed_chunk-clause-err c = λ text stands.
     rw (p.1, p.2)
     (fault_stays_in_longer c.args.self.now.rules.profile (c.readings_in_profiles.ensures.stays c.args.self.now.rules.profile) ((text ++ so_far.0) ++ chunk) rest (text ++ c.args.piece.now) c.in_err-feed_chunk.field-0.0 whole
     (subst (λ (r : GridRules). IfFault (ShowsLayerFaultIn r.profile ((text ++ so_far.0) ++ chunk)) c.in_err-feed_chunk.field-0.0) c.loop-chunk.invariant.5 (c.in_err-feed_chunk.ensures.err (text ++ so_far.0) so_far.1)))
+
+pub returns-clause-ok : goal.returns-clause-ok
+returns-clause-ok c = λ text stands.
+    let so_far = c.loop-chunk.invariant.3 text stands in
+    subst (λ (t : List ℕ). HasTriedPadsOf c.loop-chunk.self c.args.layer c.loop-chunk.reader (text ++ t))
+    (sym (append-nil so_far.0) ∙ (ap (λ (r : List ℕ). so_far.0 ++ r) (sym (nil_from_length (chunks_rest c.loop-chunk.chunk-iterator) c.in-None.ensures.steps.1.0)) ∙ so_far.2)) so_far.1

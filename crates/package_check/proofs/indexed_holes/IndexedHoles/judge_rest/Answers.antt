@@ -16,8 +16,8 @@ returns-clause-judged c = λ text left read tried.
     let counts = c.counts-counts.result in
     is_left old.rules old.holes c.args.layer text left rest read
     (sym (ap is_copper_function c.file_function.ensures) ∙ (sym c.is_copper_function.ensures ∙ c.if-not-is_copper_function.false))
-    (record { sum = sum.Layer counts.flashed counts.other counts.contours; rings = c.in_ok-rings.rings })
+    (record { sum = sum.Layer counts.flashed counts.other counts.contours; rings = c.in-Ok-rings.rings })
     (ap (λ (n : FeatureCounts). sum.Layer n.flashed n.other n.contours) c.counts-counts.ensures)
-    (rings_there mid.rules old.rules mid.holes old.holes c.args.layer (left ++ (map plain c.pads.result.now ++ c.wide_pads.result.now)) (left ++ (map plain rest.pads ++ rest.wide_pads)) c.in_ok-rings.rings c.in_ok-try_all.ensures.rules c.in_ok-try_all.ensures.holes
+    (rings_there mid.rules old.rules mid.holes old.holes c.args.layer (left ++ (map plain c.pads.result.now ++ c.wide_pads.result.now)) (left ++ (map plain rest.pads ++ rest.wide_pads)) c.in-Ok-rings.rings c.in-Ok.ensures.rules c.in-Ok.ensures.holes
     (λ i. left ++ (map plain (c.pads.ensures i) ++ c.wide_pads.ensures i))
-    (c.in_ok-rings.ensures.rings (left ++ (map plain c.pads.result.now ++ c.wide_pads.result.now)) (c.in_ok-try_all.ensures.tried left tried)))
+    (c.in-Ok-rings.ensures.rings (left ++ (map plain c.pads.result.now ++ c.wide_pads.result.now)) (c.in-Ok.ensures.tried left tried)))

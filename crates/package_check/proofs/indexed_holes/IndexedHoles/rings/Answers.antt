@@ -13,6 +13,5 @@ returns-clause-rings c = λ pads h.
     (subst (λ (ix : RingIndex). HasTried wide_pad_covers old.holes layer pads ix search) (sym same_index) (c.in_ok-search.ensures.tried pads h)) in
     let covered = map wide_pad_covers pads in
     let found = layer_findings (λ covering. covering) c.self.inside.index.rules.profile c.self.inside.index.rules.ring c.deref.result.now layer covered in
-    c.in_ok-push_findings.ensures layer covered tried
-    ∙ (ap (λ (fs : List Finding). fs ++ found) c.new-rings.ensures.items
+    c.in_ok-push_findings.ensures layer covered tried ∙ (ap (λ (fs : List Finding). fs ++ found) c.new-rings.ensures.items
     ∙ ((λ j. layer_findings (λ (covering : Covering). covering) (same_rules j).profile (same_rules j).ring (same_holes j) layer covered) ∙ layer_by_coverings wide_pad_covers old.rules.profile old.rules.ring layer old.holes pads))

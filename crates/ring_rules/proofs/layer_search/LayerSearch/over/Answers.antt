@@ -15,8 +15,7 @@ returns-clause-tried c = λ layer tried was.
     let marked = subst (λ (ms : List Bool). AreMarkedBy test holes index ms) (sym c.deref.ensures.value) was.marks in
     let listed = c.in_ok-lacking.ensures.marks test marked in
     from_three c.from_marks.result (IsSearchOver other) (λ search. search.layer ≡ c.args.self.now.layer)
-    (λ search. (tested : Drilled → Bool) → c.deref-2.result.now ≡ map tested holes → AreMarkedBy tested holes other search.marks.items)
-    (HasTriedCoverings holes layer tried other)
+    (λ search. (tested : Drilled → Bool) → c.deref-2.result.now ≡ map tested holes → AreMarkedBy tested holes other search.marks.items) (HasTriedCoverings holes layer tried other)
     (λ search over same marks. record {
       listed = c.requires.other;
       over = over;

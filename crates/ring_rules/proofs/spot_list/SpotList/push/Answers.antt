@@ -10,8 +10,6 @@ returns c =
     let hole = ap (hole_of_form (form_at c.form_number.new.forms.items c.in_ok-form.form)) c.from-from.ensures ∙ c.in_ok-form.ensures.form in
     record {
       items =
-          ap (map (spot_of more)) c.in_ok-push.ensures.items
-          ∙ (spots_more forms more c.form_number.ensures.longer c.form_number.ensures.kept c.self.inside.entries.items c.self.invariant entry
-          ∙ (ap (λ (ss : List Spot). ss ++ spot_of more entry ∷ []) c.self.view_is
-          ∙ ap (λ (s : Spot). c.args.self.now ++ s ∷ []) (entry_is more entry c.args.spot hole c.in_ok-place.ensures)));
+          ap (map (spot_of more)) c.in_ok-push.ensures.items ∙ (spots_more forms more c.form_number.ensures.longer c.form_number.ensures.kept c.self.inside.entries.items c.self.invariant entry
+          ∙ (ap (λ (ss : List Spot). ss ++ spot_of more entry ∷ []) c.self.view_is ∙ ap (λ (s : Spot). c.args.self.now ++ s ∷ []) (entry_is more entry c.args.spot hole c.in_ok-place.ensures)));
     }
