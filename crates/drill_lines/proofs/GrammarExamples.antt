@@ -1,10 +1,11 @@
 -- Examples of the grammar: these lines are written for these commands.
-use Rattle.drill_lines.proofs.Common.{◌≡◌, [], ◌∷◌, None, Some, refl, sym, subst, arith, lit≤, codes, Millimetre, Trailing, Settings, Comment, Start, UnitLine, Tool, Pick, Hit, Slot, fixed_lines, IsPointText, IsLine}
+use Rattle.drill_lines.proofs.Common.{◌≡◌, inr, [], ◌∷◌, None, Some, refl, sym, subst, arith, lit≤, codes, Millimetre, Trailing, Settings, Comment, Start, UnitLine, Tool, Pick, Hit, Slot, fixed_lines, IsPointText, IsLine}
 use Rattle.std.proofs.Common.{pos}
 use Rattle.std.specs.List.{Contains}
 use Rattle.grid_units.specs.Numbers.{parse_decimal}
 use Rattle.drill_lines.specs.declared.command.Part.TheVariants as part
 use Rattle.drill_lines.specs.HoleLines.{coordinate_of}
+use Rattle.drill_lines.specs.Repeats.{IsRepeatLine}
 
 -- `M48` before the header begins it
 start : (s : Settings) → s.part ≡ part.Before → IsLine s (codes "M48") (Some Start)
@@ -43,3 +44,8 @@ comment s e = (λ after. absurd cc, refl)
 -- `G90` in the body spells nothing
 absolute : (s : Settings) → s.part ≡ part.Body → IsLine s (codes "G90") None
 absolute s e = subst (λ p. Contains (([], None) ∷ fixed_lines p) (codes "G90", None)) (sym e) (4, omega arith, refl)
+
+-- `R3X2.54` repeats a hit three times, each 2.54 to the right of the one before
+repeat : (s : Settings) → s.part ≡ part.Body → IsRepeatLine s (codes "R3X2.54") (record { count = 3; step = record { x = Some (pos 254_000_000); y = None } })
+unfolding coordinate_of parse_decimal
+repeat s body = (body, codes "3", codes "X2.54", refl, refl, refl, lit≤ tt, lit≤ tt, inr (codes "X2.54", [], refl, (codes "2.54", refl, refl), refl, refl))

@@ -12,3 +12,4 @@ pub mod WrittenFields
 pub mod Written
 pub mod Answered
 pub mod RouteLemmas
+pub mod RepeatLemmas

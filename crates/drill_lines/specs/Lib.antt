@@ -10,5 +10,6 @@ pub mod Grammar
 pub mod Laws
 pub mod Routes
 pub mod RouteGrammar
+pub mod Repeats
 pub mod Inner
 pub mod LineReading

@@ -124,6 +124,15 @@ impl Coordinates {
     }
 }
 
+/// How a line repeats the hit before it: how often, and how far each further hole lies from the one before.
+#[derive(Clone, Copy)]
+pub struct Repeat {
+    /// How many further holes there are, 1 to 10,000.
+    pub count: u16,
+    /// The step from each hole to the next, in the unit of the file. One along an axis that is left out is 0.
+    pub step: Coordinates,
+}
+
 /// What is said of a drill file's coordinates beside it, as a line of its header would say it: `INCH,TZ,00.0000`.
 #[derive(Clone, Copy, PartialEq, Eq)]
 pub struct CoordinateFormat {

@@ -9,12 +9,13 @@ mod laws;
 mod line;
 mod line_reader;
 mod plating;
+mod repeat;
 mod route;
 mod tools;
 
 pub use canonical::{is_sayable, write_line};
 pub use command::{
-    CoordinateFormat, Coordinates, DrillCommand, DrillFormat, OptionalDec, Part, Settings,
+    CoordinateFormat, Coordinates, DrillCommand, DrillFormat, OptionalDec, Part, Repeat, Settings,
 };
 pub use header::{file_format, read_digits};
 pub use hole_lines::coordinate_of;

@@ -20,7 +20,7 @@ pub use Rattle.drill_lines.specs.declared.command.DrillCommand.TheVariants.{Comm
 pub use Rattle.drill_lines.specs.declared.command.Part.{Part}
 pub use Rattle.drill_lines.specs.declared.command.Settings.{Settings}
 pub use Rattle.drill_lines.specs.declared.route.Machine.{Machine}
-pub use Rattle.drill_text.specs.Grammar.{AreEntries, IsEntry, IsText, lines_of}
+pub use Rattle.drill_text.specs.Grammar.{AreEntries, IsEntry, IsRepeated, Spells, IsText, lines_of}
 pub use Rattle.drill_text.specs.Holding.{Advances, HasFault, Holds, Refuses, RefusesText}
 pub use Rattle.drill_text.specs.Holes.{DrillPath, coordinate_in, diameter_after, hole_of, holes_at, holes_of, path_at, point_at, unit_after, unit_or}
 pub use Rattle.drill_text.specs.Inner.FastPath.{HasLeadingHit, HasLineEnd, IsLeadingRun, MayLead}
@@ -31,6 +31,10 @@ pub use Rattle.drill_text.specs.Lines.{HasNoBreak, Splits, bytes_of, ended_line}
 pub use Rattle.drill_text.specs.Lookback.{StateView, diameter_set, ends_header, format_set, header, part_after, part_set, points_in, points_of, settings_after, state_after, tool_set, tools_at, tools_of, unit_set, x_set, y_set, zeros_set}
 pub use Rattle.drill_text.specs.Outcome.{DrillFile, commands_in, diameter_of_tool, diameters, file_of, kept_platings}
 pub use Rattle.drill_text.specs.Plating.{IsCalled, calls_plated, calls_unplated, contradiction_rule, is_plated, is_unsaid, lacks_plating, own_rule, plated_at, plating_after, plating_of_tool, plating_rule, plating_set, redefines_plating, rule_in, said_after, tool_made}
+pub use Rattle.drill_text.specs.Repeats.{further_hits, hit_on}
+unfoldable pub use Rattle.drill_text.specs.Repeats.{ends_in_hit}
+pub use Rattle.drill_lines.specs.declared.command.Repeat.{Repeat}
+pub use Rattle.drill_text.specs.Profiles.{checked_all, checked_repeat, repeat_after}
 pub use Rattle.drill_text.specs.Profiles.{Kind, Reads, ReadsAsBy, ReadsAsIn, ReadsBy, ReadsIn, Shows, ShowsBy, add_unless, checked_by, commands_by, commands_at_end, is_finish, place_after, place_after_count, plain, read_by, said_first, shown_by, shown_within, spelled_in, by_role, with_rest}
 unfoldable pub use Rattle.drill_text.specs.Profiles.{step_in}
 pub use Rattle.drill_text.specs.Rules.{applies, broken_rule, broken_rule_in, defines_alike, drills, first_broken_in, has_bad_size, has_no_tool, lacks_unit, max_holes, redefines_tool}

@@ -1,5 +1,5 @@
 -- An example of a drill text.
-use Rattle.drill_text.proofs.Common.{pos, ℕ, List, [], ◌∷◌, map, None, Some, refl, arith, lit≤, codes, Millimetre, parse_decimal, Start, UnitLine, Tool, HeaderEnd, Pick, Finish, coordinate_of, Strict, IsText, lines_of}
+use Rattle.drill_text.proofs.Common.{◌≡◌, inl, pos, ℕ, List, [], ◌∷◌, map, None, Some, refl, arith, lit≤, codes, Millimetre, parse_decimal, Start, UnitLine, Tool, HeaderEnd, Pick, Hit, Finish, further_hits, coordinate_of, Strict, IsText, lines_of}
 use Rattle.drill_text.proofs.DrillingExamples.{hit, commands}
 
 abbrev text : List ℕ
@@ -12,24 +12,24 @@ written = record {
   entries = map (λ line. line ∷ []) (lines_of text);
   lines = refl;
   spells = (
-    Some Start,
-    (1, omega arith, refl),
+    Start ∷ [],
+    inl (Some Start, (1, omega arith, refl), refl),
     (
-      Some (UnitLine Millimetre None None),
-      (refl, (codes "METRIC", [], refl, (1, omega arith, refl), (0, omega arith, refl), tt)),
+      UnitLine Millimetre None None ∷ [],
+      inl (Some (UnitLine Millimetre None None), (refl, (codes "METRIC", [], refl, (1, omega arith, refl), (0, omega arith, refl), tt)), refl),
       (
-        Some (Tool 1 (pos 40_000_000)),
-        (refl, (codes "1", [], codes "0.4", [], refl, (refl, refl, lit≤ tt), lit≤ tt, (refl, refl), (refl, refl), refl, refl)),
+        Tool 1 (pos 40_000_000) ∷ [],
+        inl (Some (Tool 1 (pos 40_000_000)), (refl, (codes "1", [], codes "0.4", [], refl, (refl, refl, lit≤ tt), lit≤ tt, (refl, refl), (refl, refl), refl, refl)), refl),
         (
-          Some HeaderEnd,
-          (1, omega arith, refl),
+          HeaderEnd ∷ [],
+          inl (Some HeaderEnd, (1, omega arith, refl), refl),
           (
-            Some (Pick 1),
-            (refl, (codes "1", [], refl, (refl, refl, lit≤ tt), (refl, refl))),
+            Pick 1 ∷ [],
+            inl (Some (Pick 1), (refl, (codes "1", [], refl, (refl, refl, lit≤ tt), (refl, refl))), refl),
             (
-              Some hit,
-              (refl, (codes "X1.0", codes "Y2.0", refl, (codes "1.0", refl, refl), (codes "2.0", refl, refl), refl)),
-              (Some Finish, (1, omega arith, refl), (None, (0, omega arith, refl), refl)),
+              hit ∷ [],
+              inl (Some hit, (refl, (codes "X1.0", codes "Y2.0", refl, (codes "1.0", refl, refl), (codes "2.0", refl, refl), refl)), refl),
+              (Finish ∷ [], inl (Some Finish, (1, omega arith, refl), refl), ([], inl (None, (0, omega arith, refl), refl), refl)),
             ),
           ),
         ),
@@ -38,3 +38,8 @@ written = record {
   );
   ends = (6, omega arith, refl);
 }
+
+-- `R2X0.5` after the hit at (1, 2) drills two further holes, at (1.5, 2) and (2, 2)
+repeated : further_hits (Pick 1 ∷ hit ∷ []) (record { count = 2; step = record { x = Some (pos 50_000_000); y = None } })
+    ≡ Hit (record { x = Some (pos 150_000_000); y = Some (pos 200_000_000) }) ∷ Hit (record { x = Some (pos 200_000_000); y = Some (pos 200_000_000) }) ∷ []
+repeated = refl

@@ -1,8 +1,9 @@
 -- A file of each kind is read as one of the same commands whose role is believed, but for the rule that the kind has beside the others.
-use Rattle.drill_text.proofs.Common.{◌≡◌, ℕ, suc, Bool, true, false, cond, ltb, ◌||◌, List, [], ◌∷◌, ◌++◌, length, map, Option, None, Some, Ok, Err, refl, sym, ap, subst, ◌∙◌, append_assoc, cons_option, filter_map, list_any, option_map, option_or, option_to_list, append-nil, line_limit, IsLegal, violation_at, with_prefixes_from, ◌>>=◌, with_place, Profile, Reason, PlatingConflict, TooLong, violations-more, bind_ok, without_end_blanks, meaning_in, DrillCommand, bytes_of, settings_after, calls_plated, contradiction_rule, own_rule, rule_in, PlatingKind, Kind, ReadsBy, add_unless, checked_by, commands_by, said_first, spelled_in, by_role, step_in, with_rest, broken_rule_in}
+use Rattle.drill_text.proofs.Common.{◌≡◌, ℕ, suc, Bool, true, false, cond, ltb, ◌||◌, List, [], ◌∷◌, ◌++◌, length, map, Option, None, Some, Ok, Err, refl, sym, ap, subst, ◌∙◌, append_assoc, cons_option, filter_map, list_any, option_map, option_or, option_to_list, append-nil, line_limit, IsLegal, violation_at, with_prefixes_from, ◌>>=◌, with_place, Profile, Reason, PlatingConflict, TooLong, violations-more, bind_ok, without_end_blanks, meaning_in, DrillCommand, bytes_of, settings_after, calls_plated, contradiction_rule, own_rule, rule_in, PlatingKind, Kind, ReadsBy, add_unless, checked_by, commands_by, said_first, spelled_in, by_role, step_in, with_rest, broken_rule_in, Result, unwrap_or, Repeat, checked_all, checked_repeat, further_hits, repeat_after}
 use Rattle.drill_text.specs.MixedLaws.{KindsReadTheSame, UncontradictedIsLegal}
 use Rattle.drill_text.proofs.PlatingLemmas.{rules_are}
 use Rattle.drill_text.proofs.ProfileLemmas.{at_ok, ending, guarded, read_alike}
+use Rattle.drill_text.proofs.RepeatLemmas.{all_ok}
 use Rattle.drill_text.proofs.SaidFirst.{said_is_own}
 use Rattle.drill_text.proofs.SpellsTextLemmas.{judged_ok, last_keeps, legal_parts, legal_start}
 
@@ -33,6 +34,57 @@ judged_back profile plating before (Some c) new e legal = by (broken_rule_in pro
         ap (λ o. add_unless o before c) (rules_are profile plating before c ∙ (λ i. option_or (is i) (own i))) ∙ k
     by (Some r) is k = absurd cc
 
+-- what further commands leave
+all_same : (profile : Profile) (plating : PlatingKind) (before cs new : List DrillCommand) → checked_all (rule_in profile plating) before cs ≡ Ok new
+    → (checked_all (broken_rule_in profile) before cs ≡ Ok new) × (IsLegal (own_rule plating) before → IsLegal (own_rule plating) new)
+all_same profile plating before [] new e = let same : before ≡ new = cc in (e, λ legal. subst (IsLegal (own_rule plating)) same legal)
+all_same profile plating before (c ∷ cs) new e =
+    let b = bind_ok (checked_by (rule_in profile plating) before (Some c)) (λ taken. checked_all (rule_in profile plating) taken cs) new e in
+    let first = judged_same profile plating before (Some c) b.0 b.1 in
+    let rest = all_same profile plating b.0 cs new b.2 in
+    (ap (λ r. r >>= λ taken. checked_all (broken_rule_in profile) taken cs) first.0 ∙ rest.0, λ legal. rest.1 (first.1 legal))
+
+all_back : (profile : Profile) (plating : PlatingKind) (before cs new : List DrillCommand) → checked_all (broken_rule_in profile) before cs ≡ Ok new → IsLegal (own_rule plating) new → checked_all (rule_in profile plating) before cs ≡ Ok new
+all_back profile plating before [] new e legal = e
+all_back profile plating before (c ∷ cs) new e legal =
+    let own = own_rule plating in
+    let b = bind_ok (checked_by (broken_rule_in profile) before (Some c)) (λ taken. checked_all (broken_rule_in profile) taken cs) new e in
+    let now : IsLegal own b.0 = legal_start own b.0 cs (subst (IsLegal own) (sym (all_ok profile b.0 cs new b.2).0) legal) in
+    ap (λ r. r >>= λ taken. checked_all (rule_in profile plating) taken cs) (judged_back profile plating before (Some c) b.0 b.1 now) ∙ all_back profile plating b.0 cs new b.2 legal
+
+-- what a line is judged as, by how it repeats a hit and by what it spells else
+judged_line : (List DrillCommand → DrillCommand → Option Reason) → List DrillCommand → Option (Result Repeat Reason) → Result (Option DrillCommand) Reason → Result (List DrillCommand) Reason
+judged_line rule before row spelt = unwrap_or (option_map (checked_repeat rule before) row) (spelt >>= checked_by rule before)
+
+line_judged_same : (profile : Profile) (plating : PlatingKind) (before : List DrillCommand) (row : Option (Result Repeat Reason)) (spelt : Result (Option DrillCommand) Reason) (new : List DrillCommand) → judged_line (rule_in profile plating) before row spelt ≡ Ok new
+    → (judged_line (broken_rule_in profile) before row spelt ≡ Ok new) × (IsLegal (own_rule plating) before → IsLegal (own_rule plating) new)
+unfolding judged_line
+line_judged_same profile plating before None spelt new e =
+    let b = bind_ok spelt (checked_by (rule_in profile plating) before) new e in
+    let j = judged_same profile plating before b.0 new b.2 in
+    (ap (λ m. m >>= checked_by (broken_rule_in profile) before) b.1 ∙ j.0, j.1)
+line_judged_same profile plating before (Some read) spelt new e =
+    let b = bind_ok read (λ repeat. checked_all (rule_in profile plating) before (further_hits before repeat)) new e in
+    let j = all_same profile plating before (further_hits before b.0) new b.2 in
+    (ap (checked_repeat (broken_rule_in profile) before) b.1 ∙ j.0, j.1)
+
+line_judged_back : (profile : Profile) (plating : PlatingKind) (before : List DrillCommand) (row : Option (Result Repeat Reason)) (spelt : Result (Option DrillCommand) Reason) (new : List DrillCommand) → judged_line (broken_rule_in profile) before row spelt ≡ Ok new
+    → IsLegal (own_rule plating) new → judged_line (rule_in profile plating) before row spelt ≡ Ok new
+unfolding judged_line
+line_judged_back profile plating before None spelt new e legal =
+    let b = bind_ok spelt (checked_by (broken_rule_in profile) before) new e in
+    ap (λ m. m >>= checked_by (rule_in profile plating) before) b.1 ∙ judged_back profile plating before b.0 new b.2 legal
+line_judged_back profile plating before (Some read) spelt new e legal =
+    let b = bind_ok read (λ repeat. checked_all (broken_rule_in profile) before (further_hits before repeat)) new e in
+    ap (checked_repeat (rule_in profile plating) before) b.1 ∙ all_back profile plating before (further_hits before b.0) new b.2 legal
+
+line_judged_more : (profile : Profile) (before : List DrillCommand) (row : Option (Result Repeat Reason)) (spelt : Result (Option DrillCommand) Reason) (new : List DrillCommand) → judged_line (broken_rule_in profile) before row spelt ≡ Ok new → (more : List DrillCommand) × (before ++ more ≡ new)
+unfolding judged_line
+line_judged_more profile before None spelt new e = let b = bind_ok spelt (checked_by (broken_rule_in profile) before) new e in (option_to_list b.0, (judged_ok profile before b.0 new b.2).0)
+line_judged_more profile before (Some read) spelt new e =
+    let b = bind_ok read (λ repeat. checked_all (broken_rule_in profile) before (further_hits before repeat)) new e in
+    (further_hits before b.0, (all_ok profile before (further_hits before b.0) new b.2).0)
+
 module _ (kind : Kind) where
   abbrev own : List DrillCommand → DrillCommand → Option Reason
   own = own_rule kind.plating
@@ -43,30 +95,30 @@ module _ (kind : Kind) where
   -- ---- one line
 
   step_same : (earlier : List (List ℕ)) (line : List ℕ) (before new : List DrillCommand) → step_in kind earlier before line ≡ Ok new → (step_in bare earlier before line ≡ Ok new) × (IsLegal own before → IsLegal own new)
-  unfolding step_in
+  unfolding step_in judged_line
   step_same earlier line before new e =
+      let row = repeat_after kind.profile earlier before line in
       let spelt = meaning_in kind.profile (map without_end_blanks earlier) (settings_after before) (without_end_blanks line) in
-      let g = guarded (ltb line_limit (length line)) TooLong (spelt >>= checked_by (rule_in kind.profile kind.plating) before) new e in
-      let b = bind_ok spelt (checked_by (rule_in kind.profile kind.plating) before) new g.1 in
-      let j = judged_same kind.profile kind.plating before b.0 new b.2 in
-      (ap (λ t. cond t (Err TooLong) (spelt >>= checked_by (broken_rule_in kind.profile) before)) g.0 ∙ (ap (λ m. m >>= checked_by (broken_rule_in kind.profile) before) b.1 ∙ j.0), j.1)
+      let g = guarded (ltb line_limit (length line)) TooLong (judged_line (rule_in kind.profile kind.plating) before row spelt) new e in
+      let j = line_judged_same kind.profile kind.plating before row spelt new g.1 in
+      (ap (λ t. cond t (Err TooLong) (judged_line (broken_rule_in kind.profile) before row spelt)) g.0 ∙ j.0, j.1)
 
   step_back : (earlier : List (List ℕ)) (line : List ℕ) (before new : List DrillCommand) → step_in bare earlier before line ≡ Ok new → IsLegal own new → step_in kind earlier before line ≡ Ok new
-  unfolding step_in
+  unfolding step_in judged_line
   step_back earlier line before new e legal =
+      let row = repeat_after kind.profile earlier before line in
       let spelt = meaning_in kind.profile (map without_end_blanks earlier) (settings_after before) (without_end_blanks line) in
-      let g = guarded (ltb line_limit (length line)) TooLong (spelt >>= checked_by (broken_rule_in kind.profile) before) new e in
-      let b = bind_ok spelt (checked_by (broken_rule_in kind.profile) before) new g.1 in
-      ap (λ t. cond t (Err TooLong) (spelt >>= checked_by (rule_in kind.profile kind.plating) before)) g.0 ∙ (ap (λ m. m >>= checked_by (rule_in kind.profile kind.plating) before) b.1 ∙ judged_back kind.profile kind.plating before b.0 new b.2 legal)
+      let g = guarded (ltb line_limit (length line)) TooLong (judged_line (broken_rule_in kind.profile) before row spelt) new e in
+      ap (λ t. cond t (Err TooLong) (judged_line (rule_in kind.profile kind.plating) before row spelt)) g.0 ∙ line_judged_back kind.profile kind.plating before row spelt new g.1 legal
 
   -- what a line leaves begins with what stood before it
   step_more : (earlier : List (List ℕ)) (line : List ℕ) (before new : List DrillCommand) → step_in bare earlier before line ≡ Ok new → (more : List DrillCommand) × (before ++ more ≡ new)
-  unfolding step_in
+  unfolding step_in judged_line
   step_more earlier line before new e =
+      let row = repeat_after kind.profile earlier before line in
       let spelt = meaning_in kind.profile (map without_end_blanks earlier) (settings_after before) (without_end_blanks line) in
-      let g = guarded (ltb line_limit (length line)) TooLong (spelt >>= checked_by (broken_rule_in kind.profile) before) new e in
-      let b = bind_ok spelt (checked_by (broken_rule_in kind.profile) before) new g.1 in
-      (option_to_list b.0, (judged_ok kind.profile before b.0 new b.2).0)
+      let g = guarded (ltb line_limit (length line)) TooLong (judged_line (broken_rule_in kind.profile) before row spelt) new e in
+      line_judged_more kind.profile before row spelt new g.1
 
   line_same : (earlier : List (List ℕ)) (line : List ℕ) (before new : List DrillCommand) → spelled_in kind earlier line before ≡ Ok new → (spelled_in bare earlier line before ≡ Ok new) × (IsLegal own before → IsLegal own new)
   line_same earlier line before new e =

@@ -30,3 +30,4 @@ pub mod GrammarExamples
 pub mod WideGrammarLemmas
 pub mod WideReadings
 pub mod CalledLemmas
+pub mod RepeatLemmas

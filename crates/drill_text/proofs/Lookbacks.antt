@@ -57,7 +57,7 @@ settings-more before c = λ i. record {
 points_of-more : (before : List DrillCommand) (c : DrillCommand) → points_of (before ++ c ∷ []) ≡ points_of before ++ points_in c
 points_of-more before c = flat_map-append points_in before (c ∷ []) ∙ ap (λ (x : List Coordinates). points_of before ++ x) (append-nil (points_in c))
 
-coordinate-more : (names : Coordinates → Option ℤ) (before : List DrillCommand) (c : DrillCommand)
+pub coordinate-more : (names : Coordinates → Option ℤ) (before : List DrillCommand) (c : DrillCommand)
     → last_set names (points_of (before ++ c ∷ [])) ≡ option_or (last_set names (points_in c)) (last_set names (points_of before))
 coordinate-more names before c = ap (λ (x : List Coordinates). last_set names x) (points_of-more before c) ∙ last_set-append names (points_of before) (points_in c)
 

@@ -1,5 +1,6 @@
 -- What lines and texts spell in a profile.
-use Rattle.drill_text.proofs.Common.{◌≡◌, ℕ, suc, ◌<◌, ◌≤◌, ◌⊎◌, inl, inr, Bool, true, false, cond, ltb, List, [], ◌∷◌, ◌++◌, length, map, Option, Result, Ok, Err, refl, sym, ap, subst, ◌∙◌, append_assoc, list_any, append-nil, take_all, lt-ltb, le-ltb, ltb-true, ltb-false, Reason, TooLong, Truncated, Fault, ◌>>=◌, fault, with_place, bind_ok, bind_err, bind_assoc, bind_cong, bind_Ok, guard_ok, guard_err, line_limit, text_limit, DrillCommand, without_end_blanks, meaning_in, bytes_of, Splits, settings_after, rule_in, Kind, ReadsBy, checked_by, commands_by, commands_at_end, is_finish, place_after, said_first, shown_by, spelled_in, step_in, with_rest}
+use Rattle.drill_text.proofs.Common.{◌≡◌, ℕ, suc, ◌<◌, ◌≤◌, ◌⊎◌, inl, inr, Bool, true, false, cond, ltb, List, [], ◌∷◌, ◌++◌, length, map, Option, Result, Ok, Err, refl, sym, ap, subst, ◌∙◌, append_assoc, list_any, append-nil, take_all, lt-ltb, le-ltb, ltb-true, ltb-false, Reason, TooLong, Truncated, Fault, ◌>>=◌, fault, with_place, bind_ok, bind_err, bind_assoc, bind_cong, bind_Ok, guard_ok, guard_err, line_limit, text_limit, DrillCommand, without_end_blanks, meaning_in, bytes_of, Splits, settings_after, rule_in, Kind, ReadsBy, checked_by, commands_by, commands_at_end, is_finish, place_after, said_first, shown_by, spelled_in, step_in, with_rest, None, Some, unwrap_or, option_map, ends_in_hit, Repeat, checked_repeat, repeat_after}
+use Rattle.drill_lines.proofs.RepeatLemmas.{none_repeated}
 
 -- ---- tests
 
@@ -84,10 +85,27 @@ unfolding step_in
 too_long kind lines line before lt = rw (lt-ltb _ _ lt) refl
 
 -- a line that spells this is judged so
-pub spelled_in_is : (kind : Kind) (earlier : List (List ℕ)) (line : List ℕ) (before : List DrillCommand) (r : Result (Option DrillCommand) Reason) → length line ≤ line_limit
+pub spelled_in_is : (kind : Kind) (earlier : List (List ℕ)) (line : List ℕ) (before : List DrillCommand) (r : Result (Option DrillCommand) Reason) → length line ≤ line_limit → repeat_after kind.profile earlier before line ≡ None
     → meaning_in kind.profile (map without_end_blanks earlier) (settings_after before) (without_end_blanks line) ≡ r → spelled_in kind earlier line before ≡ with_place (suc (length earlier)) (length (bytes_of earlier)) (r >>= checked_by (rule_in kind.profile kind.plating) before)
 unfolding step_in
-spelled_in_is kind earlier line before r le e = rw (le-ltb _ _ le) (ap (λ m. with_place (suc (length earlier)) (length (bytes_of earlier)) (m >>= checked_by (rule_in kind.profile kind.plating) before)) e)
+spelled_in_is kind earlier line before r le none e =
+    let rule = rule_in kind.profile kind.plating in
+    rw (le-ltb _ _ le) (λ i. with_place (suc (length earlier)) (length (bytes_of earlier)) (unwrap_or (option_map (checked_repeat rule before) (none i)) (e i >>= checked_by rule before)))
+
+-- one that spells a command by itself, or nothing, repeats no hit
+pub spelled_alone : (kind : Kind) (earlier : List (List ℕ)) (line : List ℕ) (before : List DrillCommand) (c : Option DrillCommand) → length line ≤ line_limit
+    → meaning_in kind.profile (map without_end_blanks earlier) (settings_after before) (without_end_blanks line) ≡ Ok c → spelled_in kind earlier line before ≡ with_place (suc (length earlier)) (length (bytes_of earlier)) (checked_by (rule_in kind.profile kind.plating) before c)
+spelled_alone kind earlier line before c le e =
+    spelled_in_is kind earlier line before (Ok c) le (none_repeated kind.profile (ends_in_hit before) (map without_end_blanks earlier) (settings_after before) (without_end_blanks line) c e) e
+
+-- one that repeats a hit is judged so
+pub spelled_repeat : (kind : Kind) (earlier : List (List ℕ)) (line : List ℕ) (before : List DrillCommand) (read : Result Repeat Reason) → length line ≤ line_limit
+    → repeat_after kind.profile earlier before line ≡ Some read → spelled_in kind earlier line before ≡ with_place (suc (length earlier)) (length (bytes_of earlier)) (checked_repeat (rule_in kind.profile kind.plating) before read)
+unfolding step_in
+spelled_repeat kind earlier line before read le e =
+    let rule = rule_in kind.profile kind.plating in
+    let spelt = meaning_in kind.profile (map without_end_blanks earlier) (settings_after before) (without_end_blanks line) in
+    rw (le-ltb _ _ le) (ap (λ row. with_place (suc (length earlier)) (length (bytes_of earlier)) (unwrap_or (option_map (checked_repeat rule before) row) (spelt >>= checked_by rule before))) e)
 
 -- ---- texts
 

@@ -71,4 +71,5 @@ read_alike_of state kept profile plating a b keep commands h =
         plated = s.plated;
       };
       keeps = h.keeps;
+      after_hit = h.after_hit;
     }

@@ -79,7 +79,7 @@ keeps_judged profile before (Some c) legal = ap (λ o. add_unless o before c) (l
 keeps_line : (earlier : List (List ℕ)) (before : List DrillCommand) (line : List ℕ) (command : Option DrillCommand) → length line ≤ line_limit → meaning (settings_after before) (without_end_blanks line) ≡ Ok command → IsLegal broken_rule (before ++ option_to_list command)
     → spelled_in (plain Strict) earlier line before ≡ Ok (before ++ option_to_list command)
 keeps_line earlier before line command short parses legal =
-    spelled_in_is (plain Strict) earlier line before (Ok command) short parses ∙ ap (with_place (suc (length earlier)) (length (bytes_of earlier))) (keeps_judged Strict before command legal)
+    spelled_in_is (plain Strict) earlier line before (Ok command) short refl parses ∙ ap (with_place (suc (length earlier)) (length (bytes_of earlier))) (keeps_judged Strict before command legal)
 
 pub all_spelled : (earlier lines : List (List ℕ)) (before new : List DrillCommand) → AreWithinLimit lines → spelled_after before lines ≡ Ok new → IsLegal broken_rule new → commands_by (plain Strict) earlier lines before ≡ Ok new
 all_spelled earlier [] before new short e legal = let same : before ≡ new = cc in ap (λ (x : List DrillCommand). Ok x) same

@@ -1,5 +1,6 @@
 -- The legal commands of a wide text drill in the body alone, and so they drill the holes that are listed of them.
-use Rattle.drill_text.proofs.Common.{◌≡◌, ℕ, true, List, [], ◌∷◌, ◌++◌, Option, None, Some, inl, inr, refl, sym, subst, ◌∙◌, append_assoc, option_to_list, Part, Settings, CoordinateFormat, DrillCommand, Wide, without_end_blanks, IsAlone, Machine, machine_after, said_first, settings_after, part_after, drills, AreEntries, IsEntry, WideHolesAreDrilled, append-nil, map}
+use Rattle.drill_text.proofs.Common.{◌≡◌, ℕ, true, List, [], ◌∷◌, ◌++◌, Option, None, Some, inl, inr, refl, sym, subst, ◌∙◌, append_assoc, option_to_list, Part, Settings, CoordinateFormat, DrillCommand, Wide, without_end_blanks, IsAlone, Machine, machine_after, said_first, settings_after, part_after, drills, AreEntries, IsEntry, WideHolesAreDrilled, append-nil, map, Coordinates, Repeat, further_hits, hit_on, IsRepeated, Spells}
+use Rattle.std.specs.List.{range_with_len}
 use Rattle.drill_lines.specs.declared.command.Part.TheVariants as part
 use Rattle.drill_lines.specs.declared.command.DrillCommand.TheVariants as command
 use Rattle.drill_text.proofs.DrillingLemmas.{AreInBody, legal_are_drilled}
@@ -34,12 +35,33 @@ entry_in_body earlier settings (line ∷ []) c h d = alone_in_body settings (mac
 entry_in_body earlier settings (first ∷ second ∷ third ∷ fourth ∷ []) (command.Slot p q) h d = h.in_body
 entry_in_body earlier settings entry c h d = absurd h
 
+-- a line that repeats a hit stands in the body
+repeat_in_body : (earlier : List (List ℕ)) (before : List DrillCommand) (entry : List (List ℕ)) (spelled : List DrillCommand) → IsRepeated Wide earlier before entry spelled
+    → (repeat : Repeat) × (part_after before ≡ part.Body) × (spelled ≡ further_hits before repeat)
+repeat_in_body earlier before (line ∷ []) spelled (repeat, hit, drilling, is_line, same) = (repeat, is_line.0, same)
+repeat_in_body earlier before entry spelled h = absurd h
+
+-- and so do its further hits
+hits_next : (before new start : List DrillCommand) (step : Coordinates) (ns : List ℕ) → part_after before ≡ part.Body → InBodyAfter (before ++ map (hit_on start step) ns) new → InBodyAfter before new
+hits_next before new start step [] body k = subst (λ (x : List DrillCommand). InBodyAfter x new) (append-nil before) k
+hits_next before new start step (n ∷ ns) body k =
+    let hit = hit_on start step n in
+    body_next before new (Some hit) (λ c e d. body)
+    (hits_next (before ++ hit ∷ []) new start step ns (part_more before hit ∙ body) (subst (λ (x : List DrillCommand). InBodyAfter x new) (sym (append_assoc before (hit ∷ []) (map (hit_on start step) ns))) k))
+
 spelled_in_body : (earlier : List (List ℕ)) (before : List DrillCommand) (entries : List (List (List ℕ))) (commands : List DrillCommand) → AreEntries Wide earlier before entries commands → InBodyAfter before commands
 spelled_in_body earlier before [] commands h = record { more = []; whole = h ∙ sym (append-nil before); stands = tt }
 spelled_in_body earlier before (entry ∷ entries) commands h =
-    body_next before commands h.0
-    (λ c e d. entry_in_body earlier (settings_after before) entry c (subst (IsEntry Wide earlier (settings_after before) entry) e h.1) d)
-    (spelled_in_body (earlier ++ entry) (before ++ option_to_list h.0) entries commands h.2)
+    by h.0 h.1 (spelled_in_body (earlier ++ entry) (before ++ h.0) entries commands h.2)
+  where
+    by : (spelled : List DrillCommand) → Spells Wide earlier before entry spelled → InBodyAfter (before ++ spelled) commands → InBodyAfter before commands
+    by spelled (inl (one, is, same)) rest =
+        body_next before commands one
+        (λ c e d. entry_in_body earlier (settings_after before) entry c (subst (IsEntry Wide earlier (settings_after before) entry) e is) d)
+        (subst (λ (cs : List DrillCommand). InBodyAfter (before ++ cs) commands) same rest)
+    by spelled (inr repeated) rest =
+        let r = repeat_in_body earlier before entry spelled repeated in
+        hits_next before commands before r.0.step (range_with_len 1 r.0.count) r.1 (subst (λ (cs : List DrillCommand). InBodyAfter (before ++ cs) commands) r.2 rest)
 
 pub wide_holes_are_drilled : WideHolesAreDrilled
 wide_holes_are_drilled format text commands written legal =

@@ -1,24 +1,39 @@
 -- A text of the wide profile, by its grammar, is read as its commands. By the grammar of each profile a text has one list of commands.
-use Rattle.drill_text.proofs.Common.{◌≡◌, ◌⊎◌, inl, inr, ℕ, suc, Bool, true, false, cond, List, [], ◌∷◌, ◌++◌, length, map, Option, None, Some, unwrap_or, Result, Ok, Err, refl, sym, ap, subst, ◌∙◌, arith, append_assoc, option_to_list, append-nil, BadLine, Reason, Routed, ◌>>=◌, fault, with_place, IsLegal, and_false, bind_ok, CoordinateFormat, Coordinates, Machine, Part, Settings, DrillCommand, Slot, Strict, Wide, without_end_blanks, meaning, starts, lowers, cuts, last_line, is_routing, machine_after, part_row, says_nothing, unless_routing, other_line, wide_meaning, IsAlone, IsRoute, IsFree, written_is_answered, bytes_of, settings_after, broken_rule_in, commands_by, said_first, spelled_in, by_role, with_rest, AreWithinLimit, spelled_after, AreEntries, IsText, lines_of, IsTextOfAtMostOne, WrittenIsRead}
+use Rattle.drill_text.proofs.Common.{◌≡◌, ◌⊎◌, inl, inr, ℕ, suc, Bool, true, false, cond, List, [], ◌∷◌, ◌++◌, length, map, Option, None, Some, unwrap_or, Result, Ok, Err, refl, sym, ap, subst, ◌∙◌, arith, append_assoc, option_to_list, append-nil, BadLine, Reason, Routed, ◌>>=◌, fault, with_place, IsLegal, and_false, bind_ok, CoordinateFormat, Coordinates, Machine, Part, Settings, DrillCommand, Slot, Strict, Wide, without_end_blanks, meaning, starts, lowers, cuts, last_line, is_routing, machine_after, part_row, says_nothing, unless_routing, other_line, wide_meaning, IsAlone, IsRoute, IsFree, written_is_answered, bytes_of, settings_after, broken_rule_in, commands_by, said_first, spelled_in, by_role, with_rest, AreWithinLimit, spelled_after, AreEntries, IsText, lines_of, IsTextOfAtMostOne, WrittenIsRead, ◌≤◌, ◌&&◌, option_map, line_limit, Fault, Repeat, ends_in_hit, further_hits, checked_repeat, repeat_after}
 use Rattle.drill_lines.specs.declared.command.Part.TheVariants as part
 use Rattle.drill_lines.proofs.RouteLemmas.{alone_read, early_end_read, empty_stands, meaning_by, old_read, route_read}
+use Rattle.drill_lines.specs.Repeats.{repeat_row}
+use Rattle.drill_lines.proofs.RepeatLemmas.{drilling_on, none_empty, none_repeated, repeat_answered, repeat_more}
 use Rattle.drill_text.proofs.FirstFaults.{cut}
 use Rattle.drill_text.proofs.GrammarLemmas.{end_found, lines_in, same_lines, text_spells}
 use Rattle.drill_text.proofs.SpellsTextLemmas.{keeps_judged, legal_start, last_short}
 use Rattle.drill_text.proofs.SpelledLemmas.{trimmed_more}
-use Rattle.drill_text.proofs.ProfileLemmas.{commands_by-push, ended_so, spelled_in_is}
+use Rattle.drill_text.proofs.ProfileLemmas.{commands_by-push, ended_so, spelled_alone, spelled_in_is, spelled_repeat}
+use Rattle.drill_text.proofs.RepeatLemmas.{keeps_all}
 
 -- ---- one line
+
+-- what a line spells: the further hits of a repeat, or at most one command
+line_spelled : List (List ℕ) → List DrillCommand → List ℕ → Option (Result Repeat Reason) → Result (List DrillCommand) Reason
+line_spelled e before line row = unwrap_or (option_map (λ read. read >>= λ repeat. Ok (further_hits before repeat)) row) (wide_meaning (map without_end_blanks e) (settings_after before) (without_end_blanks line) >>= λ c. Ok (option_to_list c))
 
 -- after earlier lines these commands and those that the lines spell, each by what stands before it
 wide_spelled : List (List ℕ) → List DrillCommand → List (List ℕ) → Result (List DrillCommand) Reason
 wide_spelled e before [] = Ok before
-wide_spelled e before (line ∷ lines) = wide_meaning (map without_end_blanks e) (settings_after before) (without_end_blanks line) >>= λ c. wide_spelled (e ++ line ∷ []) (before ++ option_to_list c) lines
+wide_spelled e before (line ∷ lines) = line_spelled e before line (repeat_after Wide e before line) >>= λ cs. wide_spelled (e ++ line ∷ []) (before ++ cs) lines
 
 line_spells : (e : List (List ℕ)) (before : List DrillCommand) (line : List ℕ) (lines : List (List ℕ)) (c : Option DrillCommand) → wide_meaning (map without_end_blanks e) (settings_after before) (without_end_blanks line) ≡ Ok c
     → wide_spelled e before (line ∷ lines) ≡ wide_spelled (e ++ line ∷ []) (before ++ option_to_list c) lines
-unfolding wide_spelled
-line_spells e before line lines c spells = ap (λ r. r >>= λ o. wide_spelled (e ++ line ∷ []) (before ++ option_to_list o) lines) spells
+unfolding wide_spelled line_spelled
+line_spells e before line lines c spells =
+    let none : repeat_after Wide e before line ≡ None = none_repeated Wide (ends_in_hit before) (map without_end_blanks e) (settings_after before) (without_end_blanks line) c spells in
+    ap (λ row. line_spelled e before line row >>= λ cs. wide_spelled (e ++ line ∷ []) (before ++ cs) lines) none
+    ∙ ap (λ r. (r >>= λ o. Ok (option_to_list o)) >>= λ cs. wide_spelled (e ++ line ∷ []) (before ++ cs) lines) spells
+
+repeat_spells : (e : List (List ℕ)) (before : List DrillCommand) (line : List ℕ) (lines : List (List ℕ)) (repeat : Repeat) → repeat_after Wide e before line ≡ Some (Ok repeat)
+    → wide_spelled e before (line ∷ lines) ≡ wide_spelled (e ++ line ∷ []) (before ++ further_hits before repeat) lines
+unfolding wide_spelled line_spelled
+repeat_spells e before line lines repeat row = ap (λ o. line_spelled e before line o >>= λ cs. wide_spelled (e ++ line ∷ []) (before ++ cs) lines) row
 
 none_spelled : (e : List (List ℕ)) (before : List DrillCommand) (line : List ℕ) (lines : List (List ℕ)) → wide_meaning (map without_end_blanks e) (settings_after before) (without_end_blanks line) ≡ Ok None → wide_spelled e before (line ∷ lines) ≡ wide_spelled (e ++ line ∷ []) before lines
 none_spelled e before line lines spells = line_spells e before line lines None spells ∙ ap (λ (cs : List DrillCommand). wide_spelled (e ++ line ∷ []) cs lines) (append-nil before)
@@ -58,13 +73,22 @@ route_spelled e before a b c d from to rest free is =
 entries_spell : (e : List (List ℕ)) (before : List DrillCommand) (entries : List (List (List ℕ))) (cs : List DrillCommand) → IsFree (map without_end_blanks e) → AreEntries Wide e before entries cs → wide_spelled e before (lines_in entries) ≡ Ok cs
 unfolding wide_spelled
 entries_spell e before [] cs free h = ap (λ (x : List DrillCommand). Ok x) (sym h)
-entries_spell e before ((line ∷ []) ∷ entries) cs free (spelled, is, rest) =
-    let k = alone_spells (settings_after before) (map without_end_blanks e) (without_end_blanks line) spelled free is in
-    line_spells e before line (lines_in entries) spelled k.0 ∙ entries_spell (e ++ line ∷ []) (before ++ option_to_list spelled) entries cs (subst IsFree (sym (trimmed_more e line)) k.1) rest
-entries_spell e before ((a ∷ b ∷ c ∷ d ∷ []) ∷ entries) cs free (Some (Slot from to), is, rest) =
+entries_spell e before ((line ∷ []) ∷ entries) cs free (spelled, inl (one, is, same), rest) =
+    let k = alone_spells (settings_after before) (map without_end_blanks e) (without_end_blanks line) one free is in
+    line_spells e before line (lines_in entries) one k.0
+    ∙ (ap (λ (x : List DrillCommand). wide_spelled (e ++ line ∷ []) (before ++ x) (lines_in entries)) (sym same) ∙ entries_spell (e ++ line ∷ []) (before ++ spelled) entries cs (subst IsFree (sym (trimmed_more e line)) k.1) rest)
+entries_spell e before ((line ∷ []) ∷ entries) cs free (spelled, inr (repeat, hit, drilling, is_line, same), rest) =
+    let s = settings_after before in
+    let trimmed = without_end_blanks line in
+    let row : repeat_after Wide e before line ≡ Some (Ok repeat) = (λ i. cond (hit i && drilling i) (repeat_row s.part s trimmed) None) ∙ repeat_answered s trimmed repeat is_line in
+    let more = repeat_more (map without_end_blanks e) trimmed (is_line.1 ++ is_line.2) (drilling_on (map without_end_blanks e) drilling) is_line.3 in
+    repeat_spells e before line (lines_in entries) repeat row
+    ∙ (ap (λ (x : List DrillCommand). wide_spelled (e ++ line ∷ []) (before ++ x) (lines_in entries)) (sym same) ∙ entries_spell (e ++ line ∷ []) (before ++ spelled) entries cs (subst IsFree (sym (trimmed_more e line)) more.free) rest)
+entries_spell e before ((a ∷ b ∷ c ∷ d ∷ []) ∷ entries) cs free (spelled, inl (Some (Slot from to), is, same), rest) =
     let k = route_spelled e before a b c d from to (lines_in entries) free is in
-    k.0 ∙ entries_spell (e ++ (a ∷ b ∷ c ∷ d ∷ [])) (before ++ Slot from to ∷ []) entries cs k.1 rest
-entries_spell e before (entry ∷ entries) cs free (spelled, is, rest) = absurd is
+    k.0 ∙ (ap (λ (x : List DrillCommand). wide_spelled (e ++ (a ∷ b ∷ c ∷ d ∷ [])) (before ++ x) (lines_in entries)) (sym same) ∙ entries_spell (e ++ (a ∷ b ∷ c ∷ d ∷ [])) (before ++ spelled) entries cs k.1 rest)
+entries_spell e before (entry ∷ entries) cs free (spelled, inl (one, is, same), rest) = absurd is
+entries_spell e before (entry ∷ entries) cs free (spelled, inr never, rest) = absurd never
 
 -- ---- what is spelled is read
 
@@ -73,20 +97,41 @@ spelled_begins : (e : List (List ℕ)) (before : List DrillCommand) (lines : Lis
 unfolding wide_spelled
 spelled_begins e before [] cs h = let same : before ≡ cs = cc in ([], sym same ∙ sym (append-nil before))
 spelled_begins e before (line ∷ lines) cs h =
-    let b = bind_ok (wide_meaning (map without_end_blanks e) (settings_after before) (without_end_blanks line)) (λ c. wide_spelled (e ++ line ∷ []) (before ++ option_to_list c) lines) cs h in
-    let k = spelled_begins (e ++ line ∷ []) (before ++ option_to_list b.0) lines cs b.2 in
-    (option_to_list b.0 ++ k.0, k.1 ∙ append_assoc before (option_to_list b.0) k.0)
+    let b = bind_ok (line_spelled e before line (repeat_after Wide e before line)) (λ c. wide_spelled (e ++ line ∷ []) (before ++ c) lines) cs h in
+    let k = spelled_begins (e ++ line ∷ []) (before ++ b.0) lines cs b.2 in
+    (b.0 ++ k.0, k.1 ∙ append_assoc before b.0 k.0)
+
+-- a line is read as what it spells
+line_read : (format : Option CoordinateFormat) (e : List (List ℕ)) (before : List DrillCommand) (line : List ℕ) (cs : List DrillCommand) → length line ≤ line_limit → line_spelled e before line (repeat_after Wide e before line) ≡ Ok cs → IsLegal (broken_rule_in Wide) (before ++ cs)
+    → spelled_in (by_role Wide format) e line before ≡ Ok (before ++ cs)
+unfolding line_spelled
+line_read format e before line cs short h legal = by (repeat_after Wide e before line) refl h
+  where
+    place : Result (List DrillCommand) Reason → Result (List DrillCommand) Fault
+    place = with_place (suc (length e)) (length (bytes_of e))
+
+    by : (row : Option (Result Repeat Reason)) → repeat_after Wide e before line ≡ row → line_spelled e before line row ≡ Ok cs → spelled_in (by_role Wide format) e line before ≡ Ok (before ++ cs)
+    by None none k =
+        let b = bind_ok (wide_meaning (map without_end_blanks e) (settings_after before) (without_end_blanks line)) (λ c. Ok (option_to_list c)) cs k in
+        let same : option_to_list b.0 ≡ cs = let o : Ok (option_to_list b.0) ≡ Ok cs = b.2 in cc in
+        let all : IsLegal (broken_rule_in Wide) (before ++ option_to_list b.0) = subst (λ (x : List DrillCommand). IsLegal (broken_rule_in Wide) (before ++ x)) (sym same) legal in
+        spelled_alone (by_role Wide format) e line before b.0 short b.1 ∙ (ap place (keeps_judged Wide before b.0 all) ∙ ap (λ (x : List DrillCommand). Ok (before ++ x)) same)
+    by (Some read) some k =
+        let b = bind_ok read (λ repeat. Ok (further_hits before repeat)) cs k in
+        let same : further_hits before b.0 ≡ cs = let o : Ok (further_hits before b.0) ≡ Ok cs = b.2 in cc in
+        let all : IsLegal (broken_rule_in Wide) (before ++ further_hits before b.0) = subst (λ (x : List DrillCommand). IsLegal (broken_rule_in Wide) (before ++ x)) (sym same) legal in
+        spelled_repeat (by_role Wide format) e line before read short some
+        ∙ (ap place (ap (checked_repeat (broken_rule_in Wide) before) b.1 ∙ keeps_all Wide before (further_hits before b.0) all) ∙ ap (λ (x : List DrillCommand). Ok (before ++ x)) same)
 
 spelled_read : (format : Option CoordinateFormat) (e : List (List ℕ)) (before : List DrillCommand) (lines : List (List ℕ)) (cs : List DrillCommand) → AreWithinLimit lines → wide_spelled e before lines ≡ Ok cs → IsLegal (broken_rule_in Wide) cs → commands_by (by_role Wide format) e lines before ≡ Ok cs
 unfolding wide_spelled
 spelled_read format e before [] cs short h legal = let same : before ≡ cs = cc in ap (λ (x : List DrillCommand). Ok x) same
 spelled_read format e before (line ∷ lines) cs short h legal =
-    let b = bind_ok (wide_meaning (map without_end_blanks e) (settings_after before) (without_end_blanks line)) (λ c. wide_spelled (e ++ line ∷ []) (before ++ option_to_list c) lines) cs h in
-    let now : List DrillCommand = before ++ option_to_list b.0 in
+    let b = bind_ok (line_spelled e before line (repeat_after Wide e before line)) (λ c. wide_spelled (e ++ line ∷ []) (before ++ c) lines) cs h in
+    let now : List DrillCommand = before ++ b.0 in
     let more = spelled_begins (e ++ line ∷ []) now lines cs b.2 in
-    let kept = keeps_judged Wide before b.0 (legal_start (broken_rule_in Wide) now more.0 (subst (IsLegal (broken_rule_in Wide)) more.1 legal)) in
-    ap (λ r. r >>= commands_by (by_role Wide format) (e ++ line ∷ []) lines) (spelled_in_is (by_role Wide format) e line before (Ok b.0) short.0 b.1 ∙ ap (with_place (suc (length e)) (length (bytes_of e))) kept)
-    ∙ spelled_read format (e ++ line ∷ []) now lines cs short.1 b.2 legal
+    let kept = line_read format e before line b.0 short.0 b.1 (legal_start (broken_rule_in Wide) now more.0 (subst (IsLegal (broken_rule_in Wide)) more.1 legal)) in
+    ap (λ r. r >>= commands_by (by_role Wide format) (e ++ line ∷ []) lines) kept ∙ spelled_read format (e ++ line ∷ []) now lines cs short.1 b.2 legal
 
 -- ---- the rest after the last LF
 
@@ -116,8 +161,8 @@ empty_spells e s = by (starts (last_line e)) (lowers (last_line e)) (cuts (last_
 rest_read : (format : Option CoordinateFormat) (lines : List (List ℕ)) (rest : List ℕ) (before cs : List DrillCommand) → spelled_in (by_role Wide format) lines rest before ≡ Ok cs → with_rest (by_role Wide format) lines rest before ≡ Ok cs
 rest_read format lines (b ∷ bs) before cs e = e
 rest_read format lines [] before cs e = elim (empty_spells (map without_end_blanks lines) (settings_after before)) [
-  | inl h ↦ sym (spelled_in_is (by_role Wide format) lines [] before (Ok None) (omega arith) h) ∙ e
-  | inr h ↦ absurd (never (sym (spelled_in_is (by_role Wide format) lines [] before (Err Routed) (omega arith) h) ∙ e))
+  | inl h ↦ sym (spelled_alone (by_role Wide format) lines [] before None (omega arith) h) ∙ e
+  | inr h ↦ absurd (never (sym (spelled_in_is (by_role Wide format) lines [] before (Err Routed) (omega arith) (none_empty (ends_in_hit before) (map without_end_blanks lines) (settings_after before)) h) ∙ e))
 ]
   where
     never : Err (fault (suc (length lines)) (length (bytes_of lines)) Routed) ≡ Ok cs → ⊥

@@ -1,6 +1,7 @@
 -- A text that is read in the strict profile is read alike in the wide one.
-use Rattle.drill_text.proofs.Common.{◌≡◌, ℕ, suc, Bool, true, false, cond, ltb, List, [], ◌∷◌, ◌++◌, length, map, Option, None, Some, Ok, Err, refl, sym, ap, subst, ◌∙◌, append_assoc, append-nil, Reason, TooLong, ◌>>=◌, with_place, bind_ok, line_limit, DrillCommand, Strict, Wide, without_end_blanks, meaning, machine_after, wide_meaning, IsFree, bytes_of, settings_after, state_after, broken_rule, defines_alike, Reads, ReadsIn, add_unless, commands_by, plain, spelled_in, step_in, with_rest, checked_by, broken_rule_in}
+use Rattle.drill_text.proofs.Common.{◌≡◌, ℕ, suc, Bool, true, false, cond, ltb, List, [], ◌∷◌, ◌++◌, length, map, Option, None, Some, Ok, Err, refl, sym, ap, subst, ◌∙◌, append_assoc, append-nil, Reason, TooLong, ◌>>=◌, with_place, bind_ok, line_limit, DrillCommand, Strict, Wide, without_end_blanks, meaning, machine_after, wide_meaning, IsFree, bytes_of, settings_after, state_after, broken_rule, defines_alike, Reads, ReadsIn, add_unless, commands_by, plain, spelled_in, step_in, with_rest, checked_by, broken_rule_in, unwrap_or, option_map, ends_in_hit, checked_repeat, repeat_after}
 use Rattle.drill_lines.specs.declared.route.Machine.TheVariants as machine
+use Rattle.drill_lines.proofs.RepeatLemmas.{none_repeated}
 use Rattle.drill_lines.proofs.RouteLemmas.{strict_line}
 use Rattle.drill_text.proofs.SpelledLemmas.{trimmed_more}
 use Rattle.drill_text.proofs.ProfileLemmas.{at_ok, ending, guarded, read_alike}
@@ -28,7 +29,8 @@ step_alike earlier line before cs h e =
     let b = bind_ok (meaning s (without_end_blanks line)) (checked_by (broken_rule_in Strict) before) cs g.1 in
     let k = strict_line s (map without_end_blanks earlier) (without_end_blanks line) b.0 h.free h.drills b.1 in
     let same : map without_end_blanks earlier ++ without_end_blanks line ∷ [] ≡ map without_end_blanks (earlier ++ line ∷ []) = sym (trimmed_more earlier line) in (
-      ap (λ t. cond t (Err TooLong) (wide_meaning (map without_end_blanks earlier) s (without_end_blanks line) >>= checked_by (broken_rule_in Wide) before)) g.0 ∙ (ap (λ m. m >>= checked_by (broken_rule_in Wide) before) k.0 ∙ judged_alike before b.0 cs b.2),
+      ap (λ t. cond t (Err TooLong) (unwrap_or (option_map (checked_repeat (broken_rule_in Wide) before) (repeat_after Wide earlier before line)) (wide_meaning (map without_end_blanks earlier) s (without_end_blanks line) >>= checked_by (broken_rule_in Wide) before))) g.0
+          ∙ ((λ i. unwrap_or (option_map (checked_repeat (broken_rule_in Wide) before) (none_repeated Wide (ends_in_hit before) (map without_end_blanks earlier) s (without_end_blanks line) b.0 k.0 i)) (k.0 i >>= checked_by (broken_rule_in Wide) before)) ∙ judged_alike before b.0 cs b.2),
       record { free = subst IsFree same k.1.0; drills = ap machine_after (sym same) ∙ k.1.1 },
     )
 

@@ -1,5 +1,10 @@
 -- A text that is read in the wide profile is a wide text, by its grammar, of what it is read as.
-use Rattle.drill_text.proofs.Common.{◌≡◌, ◌≤◌, inl, inr, ℕ, suc, Bool, true, false, ltb, ◌||◌, List, [], ◌∷◌, ◌++◌, length, map, Option, None, Some, Ok, refl, sym, ap, subst, ◌∙◌, arith, append_assoc, codes, list_any, option_to_list, ltb-false, append-nil, flat_map-append, TooLong, ◌>>=◌, IsLegal, line_limit, and_false, last_or-more, list_any-more, bind_ok, CoordinateFormat, Coordinates, Machine, Part, Settings, DrillCommand, Wide, without_end_blanks, line_in, is_routing, machine_after, may_stand, wide_meaning, IsAlone, IsRoute, IsLater, IsRouteAfter, read_in_part, means, written_is_answered, bytes_of, part_set, part_after, settings_after, broken_rule_in, commands_by, is_finish, said_first, spelled_in, by_role, step_in, with_rest, AreWithinLimit, IsEntry, AreEntries, lines_of, IsText, IsWithinLimits, ReadIsWritten, ReadsBy, checked_by}
+use Rattle.drill_text.proofs.Common.{◌≡◌, ◌≤◌, inl, inr, ℕ, suc, Bool, true, false, ltb, ◌||◌, List, [], ◌∷◌, ◌++◌, length, map, Option, None, Some, Ok, refl, sym, ap, subst, ◌∙◌, arith, append_assoc, codes, list_any, option_to_list, ltb-false, append-nil, flat_map-append, TooLong, ◌>>=◌, IsLegal, line_limit, and_false, last_or-more, list_any-more, bind_ok, CoordinateFormat, Coordinates, Machine, Part, Settings, DrillCommand, Wide, without_end_blanks, line_in, is_routing, machine_after, may_stand, wide_meaning, IsAlone, IsRoute, IsLater, IsRouteAfter, read_in_part, means, written_is_answered, bytes_of, part_set, part_after, settings_after, broken_rule_in, commands_by, is_finish, said_first, spelled_in, by_role, step_in, with_rest, AreWithinLimit, IsEntry, AreEntries, lines_of, IsText, IsWithinLimits, ReadIsWritten, ReadsBy, checked_by, Result, Reason, unwrap_or, option_map, Repeat, IsRepeated, Spells, checked_all, checked_repeat, ends_in_hit, further_hits, hit_on, repeat_after}
+use Rattle.std.specs.List.{range_with_len}
+use Rattle.drill_lines.specs.Inner.RouteSteps.{is_free_to_drill}
+use Rattle.drill_lines.proofs.RepeatLemmas.{IsDrillingOn, is_repeated, on_drilling, repeat_more, repeat_written, route_drills}
+use Rattle.drill_text.proofs.RepeatLemmas.{all_ok}
+use Rattle.drill_text.proofs.RoundTrip.{part_more}
 use Rattle.drill_lines.specs.declared.command.Part.TheVariants as part
 use Rattle.drill_lines.specs.declared.command.DrillCommand.TheVariants as command
 use Rattle.drill_lines.specs.declared.route.Machine.TheVariants as machine
@@ -16,17 +21,17 @@ use Rattle.drill_text.proofs.ProfileLemmas.{at_ok, ending, guarded}
 
 -- ---- entries
 
-entries_push : (e : List (List ℕ)) (before : List DrillCommand) (entries : List (List (List ℕ))) (mid : List DrillCommand) (entry : List (List ℕ)) (c : Option DrillCommand) → AreEntries Wide e before entries mid
-    → IsEntry Wide (e ++ lines_in entries) (settings_after mid) entry c → AreEntries Wide e before (entries ++ entry ∷ []) (mid ++ option_to_list c)
-entries_push e before [] mid entry c h k = (
-  c,
-  subst (λ (cs : List DrillCommand). IsEntry Wide e (settings_after cs) entry c) h (subst (λ (l : List (List ℕ)). IsEntry Wide l (settings_after mid) entry c) (append-nil e) k),
-  ap (λ (cs : List DrillCommand). cs ++ option_to_list c) h,
+entries_push : (e : List (List ℕ)) (before : List DrillCommand) (entries : List (List (List ℕ))) (mid : List DrillCommand) (entry : List (List ℕ)) (cs : List DrillCommand) → AreEntries Wide e before entries mid
+    → Spells Wide (e ++ lines_in entries) mid entry cs → AreEntries Wide e before (entries ++ entry ∷ []) (mid ++ cs)
+entries_push e before [] mid entry cs h k = (
+  cs,
+  subst (λ (x : List DrillCommand). Spells Wide e x entry cs) h (subst (λ (l : List (List ℕ)). Spells Wide l mid entry cs) (append-nil e) k),
+  ap (λ (x : List DrillCommand). x ++ cs) h,
 )
-entries_push e before (x ∷ entries) mid entry c (spelled, is, rest) k = (
+entries_push e before (x ∷ entries) mid entry cs (spelled, is, rest) k = (
   spelled,
   is,
-  entries_push (e ++ x) (before ++ option_to_list spelled) entries mid entry c rest (subst (λ (l : List (List ℕ)). IsEntry Wide l (settings_after mid) entry c) (sym (append_assoc e x (lines_in entries))) k),
+  entries_push (e ++ x) (before ++ spelled) entries mid entry cs rest (subst (λ (l : List (List ℕ)). Spells Wide l mid entry cs) (sym (append_assoc e x (lines_in entries))) k),
 )
 
 lines_push : (entries : List (List (List ℕ))) (entry : List (List ℕ)) → lines_in (entries ++ entry ∷ []) ≡ lines_in entries ++ entry
@@ -51,6 +56,13 @@ Waits (route.Free at) s now pending = pending ≡ []
 Waits (route.Started from) s now pending = (a : List ℕ) × (pending ≡ a ∷ []) × IsBegun s now (without_end_blanks a) from
 Waits (route.Lowered from) s now pending = (a b : List ℕ) × (pending ≡ a ∷ b ∷ []) × IsBegun s now (without_end_blanks a) from × (without_end_blanks b ≡ codes "M15")
 Waits (route.Cut from to) s now pending = (a b c : List ℕ) × (pending ≡ a ∷ b ∷ c ∷ []) × IsBegun s now (without_end_blanks a) from × (without_end_blanks b ≡ codes "M15") × IsCut s (without_end_blanks c) to
+
+-- where the machine drills no line waits
+none_waits : (r : Route) (s : Settings) (now : Machine) (pending : List (List ℕ)) → Waits r s now pending → is_free_to_drill r ≡ true → pending ≡ []
+none_waits (route.Free at) s now pending w e = w
+none_waits (route.Started from) s now pending w e = absurd cc
+none_waits (route.Lowered from) s now pending w e = absurd cc
+none_waits (route.Cut from to) s now pending w e = absurd cc
 
 -- ---- after `M30` nothing is spelled
 
@@ -117,13 +129,13 @@ module _ (format : Option CoordinateFormat) where
       (subst (λ (cs : List DrillCommand). IsGrouped (earlier ++ line ∷ []) cs next) (sym (append-nil before)) (subst (IsGrouped (earlier ++ line ∷ []) before) (sym is) h))
 
   -- the last line of an entry
-  closes : (earlier : List (List ℕ)) (before : List DrillCommand) (line : List ℕ) (c : Option DrillCommand) (next : Route) (after : Machine) (entries : List (List (List ℕ))) (pending : List (List ℕ)) → next ≡ route.Free after → earlier ≡ lines_in entries ++ pending → AreEntries Wide [] (said_first format) entries before
-      → IsEntry Wide (lines_in entries) (settings_after before) (pending ++ line ∷ []) c → IsGrouped (earlier ++ line ∷ []) (before ++ option_to_list c) next
-  closes earlier before line c next after entries pending is lines spells entry = subst (IsGrouped (earlier ++ line ∷ []) (before ++ option_to_list c)) (sym is) (record {
+  closes : (earlier : List (List ℕ)) (before : List DrillCommand) (line : List ℕ) (cs : List DrillCommand) (next : Route) (after : Machine) (entries : List (List (List ℕ))) (pending : List (List ℕ)) → next ≡ route.Free after → earlier ≡ lines_in entries ++ pending → AreEntries Wide [] (said_first format) entries before
+      → Spells Wide (lines_in entries) before (pending ++ line ∷ []) cs → IsGrouped (earlier ++ line ∷ []) (before ++ cs) next
+  closes earlier before line cs next after entries pending is lines spells entry = subst (IsGrouped (earlier ++ line ∷ []) (before ++ cs)) (sym is) (record {
     entries = entries ++ (pending ++ line ∷ []) ∷ [];
     pending = [];
     lines = ap (λ (l : List (List ℕ)). l ++ line ∷ []) lines ∙ (append_assoc (lines_in entries) pending (line ∷ []) ∙ (sym (lines_push entries (pending ++ line ∷ [])) ∙ sym (append-nil (lines_in (entries ++ (pending ++ line ∷ []) ∷ [])))));
-    spells = entries_push [] (said_first format) entries before (pending ++ line ∷ []) c spells entry;
+    spells = entries_push [] (said_first format) entries before (pending ++ line ∷ []) cs spells entry;
     waits = refl;
   })
 
@@ -132,7 +144,7 @@ module _ (format : Option CoordinateFormat) where
   grouped_more (route.Free now) earlier before line c next g at (inl (after, is, alone)) =
       let whole : earlier ≡ lines_in g.entries = g.lines ∙ (ap (λ (p : List (List ℕ)). lines_in g.entries ++ p) g.waits ∙ append-nil (lines_in g.entries)) in
       let here : machine_after (map without_end_blanks (lines_in g.entries)) ≡ now = ap (λ (l : List (List ℕ)). machine_after (map without_end_blanks l)) (sym whole) ∙ at.1 in
-      closes earlier before line c next after g.entries [] is (whole ∙ sym (append-nil (lines_in g.entries))) g.spells (subst (λ (m : Machine). IsAlone (settings_after before) m (without_end_blanks line) c) (sym here) alone)
+      closes earlier before line (option_to_list c) next after g.entries [] is (whole ∙ sym (append-nil (lines_in g.entries))) g.spells (inl (c, subst (λ (m : Machine). IsAlone (settings_after before) m (without_end_blanks line) c) (sym here) alone, refl))
   grouped_more (route.Free now) earlier before line c next g at (inr (from, start, stands, body, first_is, from_is, none, is)) =
       let whole : earlier ≡ lines_in g.entries = g.lines ∙ (ap (λ (p : List (List ℕ)). lines_in g.entries ++ p) g.waits ∙ append-nil (lines_in g.entries)) in
       let here : machine_after (map without_end_blanks (lines_in g.entries)) ≡ now = ap (λ (l : List (List ℕ)). machine_after (map without_end_blanks l)) (sym whole) ∙ at.1 in
@@ -183,8 +195,8 @@ module _ (format : Option CoordinateFormat) where
         to_is = cut.to_is;
         fourth_is = fourth_is;
       } in
-      closes earlier before line c next machine.Routing g.entries (x ∷ y ∷ z ∷ []) is (g.lines ∙ ap (λ (p : List (List ℕ)). lines_in g.entries ++ p) g.waits.3) g.spells
-      (subst (λ (o : Option DrillCommand). IsEntry Wide (lines_in g.entries) s (x ∷ y ∷ z ∷ line ∷ []) o) (sym some) is_route)
+      closes earlier before line (option_to_list c) next machine.Routing g.entries (x ∷ y ∷ z ∷ []) is (g.lines ∙ ap (λ (p : List (List ℕ)). lines_in g.entries ++ p) g.waits.3) g.spells
+      (inl (c, subst (λ (o : Option DrillCommand). IsEntry Wide (lines_in g.entries) s (x ∷ y ∷ z ∷ line ∷ []) o) (sym some) is_route, refl))
 
   -- ---- lines
 
@@ -204,12 +216,41 @@ module _ (format : Option CoordinateFormat) where
   ends_after before None h not_after = subst EndsPart (sym (append-nil before)) h
   ends_after before (Some d) h not_after = ends_more before d h (not_after d refl)
 
-  parsed_more : (earlier : List (List ℕ)) (before after : List DrillCommand) (line : List ℕ) → IsParsed earlier before → step_in (by_role Wide format) earlier before line ≡ Ok after → IsParsed (earlier ++ line ∷ []) after
-  unfolding step_in
-  parsed_more earlier before after line h e =
+  -- the further hits of a repeat do not end the file
+  hits_end : (before start : List DrillCommand) (step : Coordinates) (ns : List ℕ) → part_after before ≡ part.Body → EndsPart before → EndsPart (before ++ map (hit_on start step) ns)
+  hits_end before start step [] body h = subst EndsPart (sym (append-nil before)) h
+  hits_end before start step (n ∷ ns) body h =
+      let hit = hit_on start step n in
+      subst EndsPart (append_assoc before (hit ∷ []) (map (hit_on start step) ns)) (hits_end (before ++ hit ∷ []) start step ns (part_more before hit ∙ body) (ends_more before hit h (λ after. absurd (let no : part.Body ≡ part.After = sym body ∙ after in cc))))
+
+  parsed_repeat : (earlier : List (List ℕ)) (before after : List DrillCommand) (line : List ℕ) (read : Result Repeat Reason) → IsParsed earlier before → length line ≤ line_limit → repeat_after Wide earlier before line ≡ Some read → checked_repeat (broken_rule_in Wide) before read ≡ Ok after
+      → IsParsed (earlier ++ line ∷ []) after
+  parsed_repeat earlier before after line read h short row e =
       let s = settings_after before in
-      let g = guarded (ltb line_limit (length line)) TooLong (wide_meaning (map without_end_blanks earlier) s (without_end_blanks line) >>= checked_by (broken_rule_in Wide) before) after e in
-      let b = bind_ok (wide_meaning (map without_end_blanks earlier) s (without_end_blanks line)) (checked_by (broken_rule_in Wide) before) after g.1 in
+      let trimmed = without_end_blanks line in
+      let b = bind_ok read (λ repeat. checked_all (broken_rule_in Wide) before (further_hits before repeat)) after e in
+      let repeat = b.0 in
+      let j = all_ok Wide before (further_hits before repeat) after b.2 in
+      let is = is_repeated (ends_in_hit before) (map without_end_blanks earlier) s trimmed (Ok repeat) (row ∙ ap (λ (r : Result Repeat Reason). Some r) b.1) in
+      let written = repeat_written s trimmed repeat is.row in
+      let more = repeat_more (map without_end_blanks earlier) trimmed (written.1 ++ written.2) is.drilling written.3 in
+      let none : h.grouped.pending ≡ [] = none_waits h.r s (machine_after (map without_end_blanks (lines_in h.grouped.entries))) h.grouped.pending h.grouped.waits (sym (route_drills h.r s (map without_end_blanks earlier) h.at) ∙ on_drilling (map without_end_blanks earlier) is.drilling) in
+      let whole : earlier ≡ lines_in h.grouped.entries = h.grouped.lines ∙ (ap (λ (p : List (List ℕ)). lines_in h.grouped.entries ++ p) none ∙ append-nil (lines_in h.grouped.entries)) in
+      let entry : IsRepeated Wide (lines_in h.grouped.entries) before (line ∷ []) (further_hits before repeat) = (repeat, is.after, on_drilling _ (subst (λ (l : List (List ℕ)). IsDrillingOn (map without_end_blanks l)) whole is.drilling), written, refl) in
+      subst (IsParsed (earlier ++ line ∷ [])) j.0 (record {
+        r = route.Free machine.Drilling;
+        grouped = closes earlier before line (further_hits before repeat) (route.Free machine.Drilling) machine.Drilling h.grouped.entries [] refl (whole ∙ sym (append-nil (lines_in h.grouped.entries))) h.grouped.spells (inr entry);
+        at = subst (λ (l : List (List ℕ)). IsRouteAfter (route.Free machine.Drilling) (settings_after (before ++ further_hits before repeat)) l) (sym (trimmed_more earlier line)) (more.free, more.drills);
+        short = AllR-append (λ l. length l ≤ line_limit) earlier (line ∷ []) h.short (short, tt);
+        legal = subst (IsLegal (broken_rule_in Wide)) (sym j.0) (j.1 h.legal);
+        ends = hits_end before before repeat.step (range_with_len 1 repeat.count) written.0 h.ends;
+      })
+
+  parsed_alone : (earlier : List (List ℕ)) (before after : List DrillCommand) (line : List ℕ) → IsParsed earlier before → length line ≤ line_limit → (wide_meaning (map without_end_blanks earlier) (settings_after before) (without_end_blanks line) >>= checked_by (broken_rule_in Wide) before) ≡ Ok after
+      → IsParsed (earlier ++ line ∷ []) after
+  parsed_alone earlier before after line h short e =
+      let s = settings_after before in
+      let b = bind_ok (wide_meaning (map without_end_blanks earlier) s (without_end_blanks line)) (checked_by (broken_rule_in Wide) before) after e in
       let c = b.0 in
       let j = judged_ok Wide before c after b.2 in
       let k = reads_on h.r s (map without_end_blanks earlier) (without_end_blanks line) c h.at b.1 in
@@ -218,10 +259,22 @@ module _ (format : Option CoordinateFormat) where
         r = k.next;
         grouped = grouped_more h.r earlier before line c k.next h.grouped h.at k.written;
         at = subst (λ (l : List (List ℕ)). IsRouteAfter k.next (settings_after now) l) (sym (trimmed_more earlier line)) (k.after (settings_after now) (later_settings before c));
-        short = AllR-append (λ l. length l ≤ line_limit) earlier (line ∷ []) h.short (ltb-false _ _ g.0, tt);
+        short = AllR-append (λ l. length l ≤ line_limit) earlier (line ∷ []) h.short (short, tt);
         legal = subst (IsLegal (broken_rule_in Wide)) (sym j.0) (j.1 h.legal);
         ends = ends_after before c h.ends (λ d same. never_after h.r before (machine_after (map without_end_blanks (lines_in h.grouped.entries))) line d k.next h.grouped.pending h.grouped.waits (subst (λ (o : Option DrillCommand). IsWritten h.r s (without_end_blanks line) o k.next) same k.written));
       })
+
+  parsed_more : (earlier : List (List ℕ)) (before after : List DrillCommand) (line : List ℕ) → IsParsed earlier before → step_in (by_role Wide format) earlier before line ≡ Ok after → IsParsed (earlier ++ line ∷ []) after
+  unfolding step_in
+  parsed_more earlier before after line h e =
+      let spelt = wide_meaning (map without_end_blanks earlier) (settings_after before) (without_end_blanks line) >>= checked_by (broken_rule_in Wide) before in
+      let g = guarded (ltb line_limit (length line)) TooLong (unwrap_or (option_map (checked_repeat (broken_rule_in Wide) before) (repeat_after Wide earlier before line)) spelt) after e in
+      by (ltb-false _ _ g.0) (repeat_after Wide earlier before line) refl g.1
+    where
+      by : length line ≤ line_limit → (row : Option (Result Repeat Reason)) → repeat_after Wide earlier before line ≡ row
+          → unwrap_or (option_map (checked_repeat (broken_rule_in Wide) before) row) (wide_meaning (map without_end_blanks earlier) (settings_after before) (without_end_blanks line) >>= checked_by (broken_rule_in Wide) before) ≡ Ok after → IsParsed (earlier ++ line ∷ []) after
+      by short None none k = parsed_alone earlier before after line h short k
+      by short (Some read) some k = parsed_repeat earlier before after line read h short some k
 
   line_parsed : (earlier : List (List ℕ)) (before after : List DrillCommand) (line : List ℕ) → IsParsed earlier before → spelled_in (by_role Wide format) earlier line before ≡ Ok after → IsParsed (earlier ++ line ∷ []) after
   line_parsed earlier before after line h e = parsed_more earlier before after line h (at_ok (suc (length earlier)) (length (bytes_of earlier)) (step_in (by_role Wide format) earlier before line) after e)

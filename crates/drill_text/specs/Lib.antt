@@ -4,6 +4,7 @@ pub mod Holes
 pub mod Rules
 pub mod Plating
 pub mod Drilling
+pub mod Repeats
 pub mod Profiles
 pub mod Texts
 pub mod Grammar

@@ -1,24 +1,28 @@
 -- The commands of a drill text in a profile, or its first fault. Each line is read by those before it; mixed files and unplated ones have a rule more
 -- (docs/FORMATS.md, Drill lines; The first fault; The wide profile; Mixed drill files; Unplated drill files).
-use Rattle.std.specs.Prelude.{◌≡◌, ℕ, suc, ◌+◌, Bool, true, false, nat_lt, List, [], ◌∷◌, ◌++◌, length, take, map, if◌then◌else◌, Option, None, Some, Result, Ok, Err}
+use Rattle.std.specs.Prelude.{◌≡◌, ℕ, suc, ◌+◌, Bool, true, false, nat_lt, List, [], ◌∷◌, ◌++◌, length, take, map, if◌then◌else◌, Option, None, Some, unwrap_or, Result, Ok, Err}
 use Rattle.std.specs.List.{list_any}
 use Rattle.std.specs.Option.{option_map, option_to_list}
 use Rattle.grid_units.specs.declared.fault.Reason.{Reason}
 use Rattle.grid_units.specs.declared.fault.Reason.TheVariants.{TooLong, Truncated}
 use Rattle.grid_units.specs.declared.fault.Fault.{Fault}
 use Rattle.grid_units.specs.Results.{◌>>=◌, fault, with_place}
+use Rattle.grid_units.specs.Rows.{RowOf}
 use Rattle.drill_lines.specs.declared.command.DrillCommand.{DrillCommand}
 use Rattle.drill_lines.specs.declared.command.CoordinateFormat.{CoordinateFormat}
 use Rattle.drill_lines.specs.declared.command.DrillCommand.TheVariants.{Finish, UnitLine}
 use Rattle.grid_units.specs.declared.profile.Profile.{Profile}
 use Rattle.grid_units.specs.declared.profile.Profile.TheVariants.{Strict}
+use Rattle.drill_lines.specs.declared.command.Repeat.{Repeat}
 use Rattle.drill_lines.specs.Lines.{without_end_blanks}
+use Rattle.drill_lines.specs.Repeats.{repeat_in}
 use Rattle.drill_lines.specs.Routes.{meaning_in}
 use Rattle.drill_text.specs.declared.platings.PlatingKind.{PlatingKind}
 use Rattle.drill_text.specs.declared.platings.PlatingKind.TheVariants as plating
 use Rattle.drill_text.specs.Lines.{bytes_of, Splits}
 use Rattle.drill_text.specs.Lookback.{settings_after}
 use Rattle.drill_text.specs.Plating.{rule_in}
+use Rattle.drill_text.specs.Repeats.{ends_in_hit, further_hits}
 use Rattle.grid_units.specs.Limits.{text_limit, line_limit}
 
 -- the kind of a drill file: in which profile it is read, by what it is known which of its holes are plated, and what is said of its coordinates beside it
@@ -59,11 +63,25 @@ abbrev pub checked_by : (List DrillCommand → DrillCommand → Option Reason) �
 checked_by rule before None = Ok before
 checked_by rule before (Some c) = add_unless (rule before c) before c
 
+-- these commands and further ones in order, or the first rule that one of them breaks
+abbrev pub checked_all : (List DrillCommand → DrillCommand → Option Reason) → List DrillCommand → List DrillCommand → Result (List DrillCommand) Reason
+checked_all rule before [] = Ok before
+checked_all rule before (c ∷ cs) = add_unless (rule before c) before c >>= λ taken. checked_all rule taken cs
+
+-- these commands and the further hits of a repeat, or its refusal, or the first rule that one of them breaks
+abbrev pub checked_repeat : (List DrillCommand → DrillCommand → Option Reason) → List DrillCommand → Result Repeat Reason → Result (List DrillCommand) Reason
+checked_repeat rule before read = read >>= λ repeat. checked_all rule before (further_hits before repeat)
+
+-- how a line repeats the last hit, in a profile, after these lines and commands; `None` for a line that does not
+abbrev pub repeat_after : Profile → List (List ℕ) → List DrillCommand → List ℕ → RowOf Repeat
+repeat_after profile earlier before line = repeat_in profile (ends_in_hit before) (map without_end_blanks earlier) (settings_after before) (without_end_blanks line)
+
 -- one more line after these, which spell these commands: TooLong above 1,048,576 bytes; else it is read by what stands before it, and judged
 unfoldable pub step_in : Kind → List (List ℕ) → List DrillCommand → List ℕ → Result (List DrillCommand) Reason
 step_in kind earlier before line =
     if nat_lt line_limit (length line) then Err TooLong
-    else (meaning_in kind.profile (map without_end_blanks earlier) (settings_after before) (without_end_blanks line) >>= checked_by (rule_in kind.profile kind.plating) before)
+    else unwrap_or (option_map (checked_repeat (rule_in kind.profile kind.plating) before) (repeat_after kind.profile earlier before line))
+    (meaning_in kind.profile (map without_end_blanks earlier) (settings_after before) (without_end_blanks line) >>= checked_by (rule_in kind.profile kind.plating) before)
 
 -- one more line after these; a refusal is its fault, at the number of the line, from 1, and at the offset of its first byte
 abbrev pub spelled_in : Kind → List (List ℕ) → List ℕ → List DrillCommand → Result (List DrillCommand) Fault

@@ -1,6 +1,7 @@
 //! What is kept of the commands of a drill file.
 
-ghost use Rattle.std.specs.Prelude.{◌≡◌, [], OnOk};
+ghost use Rattle.std.specs.Prelude.{◌≡◌, true, false, [], OnOk};
+ghost use Rattle.drill_text.specs.Repeats.{is_hit};
 
 use crate::writer::put_line;
 use drill_lines::{Coordinates, DrillCommand};
@@ -18,14 +19,22 @@ pub enum Keep {
     Holes,
 }
 
-/// The commands that were read, or their canonical text, or neither; and whether the end of the file is among them. Once the
-/// text is longer than a text may be, nothing is added to it.
+/// Whether a command is a hit.
+fn is_hit(command: &DrillCommand) -> bool
+    ensures { result ≡ is_hit command.now }
+{
+    matches!(command, DrillCommand::Hit(_))
+}
+
+/// The commands that were read, or their canonical text, or neither; and whether the end of the file is among them, and the last of
+/// them is a hit. Once the text is longer than a text may be, nothing is added to it.
 #[derive(Drop)]
 pub(crate) struct KeptCommands {
     keep: Keep,
     commands: Vec<DrillCommand>,
     text: Vec<u8>,
     is_finished: bool,
+    is_after_hit: bool,
 }
 
 impl KeptCommands {
@@ -34,23 +43,27 @@ impl KeptCommands {
 
     /// Nothing is kept yet.
     pub(crate) fn new(alloc: Global, keep: Keep) -> KeptCommands
-        ensures { KeepsCommands result keep [] }
+        ensures keeps { KeepsCommands result keep [] }
+        ensures hit { result.is_after_hit ≡ false }
     {
         KeptCommands {
             keep,
             commands: Vec::new(alloc),
             text: Vec::new(alloc),
             is_finished: false,
+            is_after_hit: false,
         }
     }
 
     /// Adds a command, or its line.
     pub(crate) fn add(&mut self, command: DrillCommand) -> Result<(), AllocError>
-        ensures { OnOk result (KeepsNext self.old command self.new) }
+        ensures keeps { OnOk result (KeepsNext self.old command self.new) }
+        ensures hit { OnOk result (self.new.is_after_hit ≡ is_hit command) }
     {
         if matches!(command, DrillCommand::Finish) {
             self.is_finished = true;
         }
+        self.is_after_hit = is_hit(&command);
         match self.keep {
             Keep::Commands => {
                 self.commands.push(command)?;
@@ -63,9 +76,11 @@ impl KeptCommands {
 
     /// Adds a hit at a point, or its line. Where neither is kept, no command is made of it.
     pub(crate) fn add_hit(&mut self, point: Coordinates) -> Result<(), AllocError>
-        ensures { OnOk result (KeepsNext self.old (command.Hit point) self.new) }
+        ensures keeps { OnOk result (KeepsNext self.old (command.Hit point) self.new) }
+        ensures hit { OnOk result (self.new.is_after_hit ≡ true) }
     {
         if matches!(self.keep, Keep::Holes) {
+            self.is_after_hit = true;
             return Ok(());
         }
         self.add(DrillCommand::Hit(point))
@@ -76,6 +91,13 @@ impl KeptCommands {
         ensures { result ≡ self.now.is_finished }
     {
         self.is_finished
+    }
+
+    /// Whether the last of the commands is a hit.
+    pub(crate) fn is_after_hit(&self) -> bool
+        ensures { result ≡ self.now.is_after_hit }
+    {
+        self.is_after_hit
     }
 
     /// The commands and the text that are kept.

@@ -7,13 +7,14 @@ ghost use Rattle.grid_units.specs.declared.fault.Fault.{Fault};
 ghost use Rattle.grid_units.specs.declared.fault.Fail.TheVariants.{Memory, Refused};
 ghost use Rattle.grid_units.specs.Limits.{line_limit, text_limit};
 ghost use Rattle.grid_units.specs.Results.{fault, with_place, Answers, IfFault};
-ghost use Rattle.drill_text.specs.Profiles.{Kind, Reads, ReadsAsBy, checked_by, place_after_count, spelled_in, with_rest, ShowsBy};
+ghost use Rattle.drill_text.specs.Repeats.{further_hits, hit_on};
+ghost use Rattle.drill_text.specs.Profiles.{Kind, Reads, ReadsAsBy, checked_all, checked_by, checked_repeat, place_after_count, spelled_in, with_rest, ShowsBy};
 ghost use Rattle.drill_text.specs.Plating.{rule_in};
 ghost use Rattle.drill_text.specs.declared.kept.Keep.{Keep as TheKeep};
 ghost use Rattle.drill_text.specs.declared.platings.PlatingKind.{PlatingKind as ThePlating};
 ghost use Rattle.drill_text.specs.declared.platings.PlatingKind.TheVariants as plating;
 ghost use Rattle.drill_text.specs.declared.kept.Keep.TheVariants as keep;
-ghost use Rattle.drill_text.specs.Keeping.{HasRead, HasReadIn, ResultsIn, ResultsInLine};
+ghost use Rattle.drill_text.specs.Keeping.{HasRead, HasReadIn, KeepsMore, ResultsIn, ResultsInLine};
 ghost use Rattle.drill_text.specs.Lines.{bytes_of};
 ghost use Rattle.grid_units.specs.declared.profile.Profile.{Profile as TheProfile};
 ghost use Rattle.drill_text.specs.Outcome.{commands_in, file_of};
@@ -25,7 +26,7 @@ use crate::fast_path::leading_hit;
 use crate::kept::{Keep, KeptCommands};
 use crate::platings::PlatingKind;
 use crate::state::DrillState;
-use drill_lines::{CoordinateFormat, Coordinates, DrillCommand, LineReader};
+use drill_lines::{CoordinateFormat, Coordinates, DrillCommand, LineReader, Repeat};
 use grid_units::{Fail, Fault, ItemFail, LINE_LIMIT, Profile, Reason};
 use memchr::memchr;
 use std::alloc::Global;
@@ -110,7 +111,57 @@ fn keep_hit(
     }
 }
 
-/// Reads and judges a line, and adds the command that it spells.
+/// Checks one further hit, a step from the last one, and adds it if it breaks no rule.
+fn keep_next(
+    place: u64,
+    byte: u64,
+    step: &Coordinates,
+    state: &mut DrillState,
+    kept: &mut KeptCommands,
+) -> Result<(), Fail>
+    ensures { KeepsMore result state.old kept.old state.new kept.new place byte (λ rule before. checked_by rule before (Some (hit_on before step.now 1))) }
+{
+    match state.next_point(step) {
+        Ok(point) => keep_hit(place, byte, point, state, kept),
+        Err(reason) => Err(refusal(place, byte, reason)),
+    }
+}
+
+/// Checks the further hits of a repeat one by one, and adds those before the first that breaks a rule.
+fn keep_all(
+    place: u64,
+    byte: u64,
+    repeat: Repeat,
+    state: &mut DrillState,
+    kept: &mut KeptCommands,
+) -> Result<(), Fail>
+    ensures { KeepsMore result state.old kept.old state.new kept.new place byte (λ rule before. checked_all rule before (further_hits before repeat)) }
+{
+    let mut left = repeat.count;
+    while left > 0 {
+        keep_next(place, byte, &repeat.step, state, kept)?;
+        left -= 1;
+    }
+    Ok(())
+}
+
+/// Checks what a line repeats, and adds its further hits.
+fn keep_repeat(
+    place: u64,
+    byte: u64,
+    read: Result<Repeat, Reason>,
+    state: &mut DrillState,
+    kept: &mut KeptCommands,
+) -> Result<(), Fail>
+    ensures { KeepsMore result state.old kept.old state.new kept.new place byte (λ rule before. checked_repeat rule before read) }
+{
+    match read {
+        Ok(repeat) => keep_all(place, byte, repeat, state, kept),
+        Err(reason) => Err(refusal(place, byte, reason)),
+    }
+}
+
+/// Reads and judges a line, and adds the commands that it spells.
 fn parse_line(
     place: u64,
     byte: u64,
@@ -122,11 +173,14 @@ fn parse_line(
     requires short { length line.now ≤ line_limit }
     ensures { (kind : Kind) (keep : TheKeep) (earlier : List (List ℕ)) (before : List TheCommand) → place ≡ suc (length earlier) → byte ≡ length (bytes_of earlier) → HasReadIn reader.old state.old kept.old kind keep earlier before → ResultsInLine result reader.new state.new kept.new kind keep earlier line.now (spelled_in kind earlier line.now before) }
 {
-    match reader.read(state.settings(), line) {
-        Ok(None) => Ok(()),
-        Ok(Some(command)) => keep(place, byte, command, state, kept),
-        Err(ItemFail::Memory) => Err(Fail::Memory),
-        Err(ItemFail::Refused(reason)) => Err(refusal(place, byte, reason)),
+    match reader.read_repeat(kept.is_after_hit(), &state.settings(), line) {
+        Some(repeat) => keep_repeat(place, byte, repeat, state, kept),
+        None => match reader.read(state.settings(), line) {
+            Ok(None) => Ok(()),
+            Ok(Some(command)) => keep(place, byte, command, state, kept),
+            Err(ItemFail::Memory) => Err(Fail::Memory),
+            Err(ItemFail::Refused(reason)) => Err(refusal(place, byte, reason)),
+        },
     }
 }
 

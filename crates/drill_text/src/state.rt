@@ -1,10 +1,13 @@
 //! The state of a drill file: it meets the commands one by one, and answers which rule a command breaks first.
 
-ghost use Rattle.std.specs.Prelude.{◌≡◌, nat_eq, ◌&&◌, [], ◌∷◌, ◌++◌, List, OnOk, IfOk, length, Some, None, Ok, is_some, true, false};
+ghost use Rattle.std.specs.Prelude.{◌≡◌, ◌<◌, ◌≤◌, pos, unsigned_abs, unwrap_or, IfErr, Err, nat_eq, ◌&&◌, [], ◌∷◌, ◌++◌, List, OnOk, IfOk, length, Some, None, Ok, is_some, true, false};
 ghost use Rattle.std.specs.Option.{option_and_then, option_map, option_or};
 ghost use Rattle.indexmap.specs.IndexMap.{get};
 ghost use Rattle.drill_text.specs.Rules.{same_unit, same_zeros, same_format, width_with, first_broken, applies, rules, defines_alike, differs, picks_unknown_tool, drills};
+ghost use Rattle.grid_units.specs.Numbers.{max_units};
 ghost use Rattle.drill_text.specs.Holes.{unit_or, coordinate_in};
+ghost use Rattle.grid_units.specs.declared.fault.Reason.TheVariants as reason;
+ghost use Rattle.drill_text.specs.Repeats.{steps_on};
 ghost use Rattle.drill_text.specs.Outcome.{diameter_of_tool};
 
 use crate::platings::{PlatingKind, PlatingWords, Tool, calls_plated, same_plating};
@@ -42,10 +45,9 @@ impl DrillState {
     ghost use Rattle.std.specs.List.{find};
     ghost use Rattle.drill_lines.specs.declared.command.DrillCommand.TheVariants as command;
     ghost use Rattle.drill_lines.specs.declared.command.Part.TheVariants as part;
-    ghost use Rattle.grid_units.specs.declared.fault.Reason.TheVariants as reason;
     ghost use Rattle.drill_text.specs.Plating.{plating_set};
     ghost use Rattle.grid_units.specs.Numbers.{within_limit};
-    ghost use Rattle.drill_text.specs.Inner.StateSteps.{state_of, AddsOrRefuses, IsStateAfter, Applies, JudgesNext, DrillsOrRefuses, MarksOrRefuses, broken_in, own_in, plates_otherwise, picked_plating, after_format, at_last_point, drill_path, IsWidth, point_in, no_point, hole_between, hole_in};
+    ghost use Rattle.drill_text.specs.Inner.StateSteps.{state_of, AddsOrRefuses, IsStateAfter, Applies, JudgesNext, DrillsOrRefuses, MarksOrRefuses, broken_in, own_in, plates_otherwise, picked_plating, after_format, at_last_point, drill_path, IsWidth, point_in, no_point, hole_between, hole_in, next_point};
 
     /// The state before the first command, in a file that is read in this profile, and whose platings are known so.
     pub(crate) fn new(alloc: Global, profile: Profile, kind: PlatingKind) -> DrillState
@@ -384,6 +386,17 @@ impl DrillState {
         self.hole_between(width, at, at)
     }
 
+    /// The point of a further hit, a step from the last one, or the first rule that the hit breaks where it lies beyond all decimals.
+    pub(crate) fn next_point(&self, step: &Coordinates) -> Result<Coordinates, Reason>
+        ensures ok { IfOk result (λ point. point ≡ next_point (state_of self.now) step.now) }
+        ensures err { IfErr result (λ broken. hole_in (state_of self.now) (length self.now.holes.items) (next_point (state_of self.now) step.now) no_point ≡ Err broken) }
+    {
+        self.width()?;
+        let x = step_on(self.x, step.x)?;
+        let y = step_on(self.y, step.y)?;
+        Ok(Coordinates::new(Some(x), Some(y)))
+    }
+
     /// Adds the slot from one point to another, unless that breaks a rule.
     fn drill_slot(&mut self, first: &Coordinates, second: &Coordinates) -> Result<(), ItemFail>
         ensures { DrillsOrRefuses self.old first.now second.now self.new result }
@@ -505,6 +518,25 @@ impl DrillState {
         ensures range { IfOk result IsWidth }
     {
         self.width
+    }
+}
+
+/// A coordinate one step on, or `TooFar` where that is no decimal.
+fn step_on(at: OptionalDec, step: OptionalDec) -> Result<Dec, Reason>
+    ensures ok { IfOk result (λ d. d ≡ steps_on 1 at step) }
+    ensures err { IfErr result (λ broken. (broken ≡ reason.TooFar) × (max_units < unsigned_abs (steps_on 1 at step))) }
+{
+    Dec::from_units(units_or_zero(at) + units_or_zero(step)).ok_or(Reason::TooFar)
+}
+
+/// A coordinate in units of 10^-8, 0 where it is left out.
+fn units_or_zero(value: OptionalDec) -> i64
+    ensures value { result ≡ unwrap_or value (pos 0) }
+    ensures in_range { unsigned_abs result ≤ max_units }
+{
+    match value.get() {
+        Some(value) => value.units(),
+        None => 0,
     }
 }
 

@@ -1,5 +1,5 @@
 -- What a reader keeps of the lines before the next one: how far a route has come. And what one more line makes of it.
-use Rattle.std.specs.Prelude.{◌≡◌, ℕ, true, false, List, [], ◌∷◌, if◌then◌else◌, Option, Some, None, unwrap_or, Result, Ok, Err, codes}
+use Rattle.std.specs.Prelude.{◌≡◌, ℕ, Bool, true, false, List, [], ◌∷◌, if◌then◌else◌, Option, Some, None, unwrap_or, Result, Ok, Err, codes}
 use Rattle.std.specs.Option.{option_map}
 use Rattle.grid_units.specs.declared.fault.Reason.{Reason}
 use Rattle.grid_units.specs.declared.fault.Reason.TheVariants.{BadLine, Routed}
@@ -16,6 +16,7 @@ use Rattle.drill_lines.specs.declared.route.Machine.TheVariants as machine
 use Rattle.drill_lines.specs.declared.route.Route.{Route}
 use Rattle.drill_lines.specs.declared.route.Route.TheVariants as route
 use Rattle.drill_lines.specs.Meaning.{meaning}
+use Rattle.drill_lines.specs.Repeats.{is_drilling}
 use Rattle.drill_lines.specs.Routes.{starts, lowers, cuts, raises, routed_point, last_line, last_point, machine_set, machine_after, says_nothing, may_stand, unless_routing}
 
 -- ---- one more line
@@ -61,6 +62,11 @@ route_step (route.Lowered from) settings line = third_step from settings line
 route_step (route.Cut from to) settings line = fourth_step from to line
 
 -- ---- what the lines before say
+
+-- no line of a route is due, and the machine drills
+abbrev pub is_free_to_drill : Route → Bool
+is_free_to_drill (route.Free now) = is_drilling now
+is_free_to_drill _ = false
 
 -- no line of a route is due after these lines
 abbrev pub IsFree : List (List ℕ) → Type 0

@@ -31,6 +31,7 @@ use Rattle.drill_text.specs.Holes.{DrillPath, coordinate_in, unit_or, hole_of, h
 use Rattle.drill_text.specs.Outcome.{diameter_of_tool, diameters, kept_platings}
 use Rattle.drill_text.specs.Plating.{calls_plated, calls_unplated, is_plated, is_unsaid, plating_of_tool, plating_set, redefines_plating, rule_in, said_after, tool_made}
 use Rattle.drill_text.specs.Profiles.{Kind}
+use Rattle.drill_text.specs.Repeats.{steps_on}
 use Rattle.drill_text.specs.Rules.{defines_alike, drills, first_broken_in, redefines_tool, max_holes, width_with}
 
 -- what stands before the next command, by the fields of the state
@@ -109,6 +110,10 @@ path_between s first second = record {
 -- a point that names no coordinate
 abbrev pub no_point : Coordinates
 no_point = record { x = None; y = None }
+
+-- the point one step on from the last one, with both of its coordinates
+abbrev pub next_point : StateView → Coordinates → Coordinates
+next_point s step = record { x = Some (steps_on 1 s.x step.x); y = Some (steps_on 1 s.y step.y) }
 
 -- what a command drills, by what stands: a hit from its point to itself
 abbrev pub drill_path : StateView → DrillCommand → Option DrillPath

@@ -1,4 +1,5 @@
-use Rattle.drill_text.proofs.Common.{◌≡◌, [], ◌∷◌, ◌++◌, Some, Err, sym, subst, IfFault, with_place, ItemFail, rule_in, checked_by, AppliesOrRefuses}
+use Rattle.drill_text.proofs.Common.{◌≡◌, [], ◌∷◌, ◌++◌, Some, Err, sym, ◌∙◌, subst, IfFault, with_place, ItemFail, rule_in, checked_by, AppliesOrRefuses}
+use Rattle.drill_text.proofs.RepeatLemmas.{ends_more}
 use Rattle.drill_text.proofs.SpelledLemmas.{checked_kept, checked_broken}
 use Rattle.drill_text.proofs.reader.keep.Goals as goal
 
@@ -7,7 +8,7 @@ returns-in-Ok c kind keep before has_read =
     let k = c.in-Ok.ensures kind before has_read.is_state in (
       before ++ c.args.command ∷ [],
       checked_kept kind before c.args.place c.args.byte c.args.command k.0,
-      record { is_state = k.1; keeps = c.in_ok-add-in-Ok.ensures keep before has_read.keeps },
+      record { is_state = k.1; keeps = c.in_ok-add-in-Ok.ensures.keeps keep before has_read.keeps; after_hit = c.in_ok-add-in-Ok.ensures.hit ∙ sym (ends_more before c.args.command) },
     )
 
 pub returns : goal.returns

@@ -3,7 +3,7 @@ use Rattle.drill_lines.specs.declared.command.Part.TheVariants as part
 use Rattle.drill_lines.specs.declared.route.Machine.TheVariants as machine
 use Rattle.drill_lines.specs.declared.route.Route.TheVariants as route
 use Rattle.drill_lines.proofs.RouteLemmas.{drilling_line}
-use Rattle.drill_text.proofs.ProfileLemmas.{spelled_in_is}
+use Rattle.drill_text.proofs.ProfileLemmas.{spelled_alone}
 use Rattle.drill_text.proofs.SpelledLemmas.{settings_are, lines_more}
 use Rattle.drill_text.proofs.PieceLemmas.{Refuses-prefix}
 use Rattle.drill_text.proofs.WholeLineLemmas.{whole_taken, whole_refused}
@@ -31,7 +31,7 @@ judged : (old : Progress) (point : Coordinates) (len : ℕ) (bytes : List ℕ) (
 judged old point len bytes leads p keep text h body drilling =
     let short : length leads.line ≤ 1048576 = omega (arith, leads.count, leads.short) in
     let place : suc (length h.lines) ≡ old.lines + 1 = omega (arith, h.count) in
-    spelled_in_is p h.lines leads.line h.commands (Ok (Some (Hit point))) short (reads_hit old point len bytes leads p keep text h body drilling).0
+    spelled_alone p h.lines leads.line h.commands (Some (Hit point)) short (reads_hit old point len bytes leads p keep text h body drilling).0
     ∙ (ap (λ n. with_place n (length (bytes_of h.lines)) (checked_by (rule_in p.profile p.plating) h.commands (Some (Hit point)))) place ∙ ap (λ b. with_place (old.lines + 1) b (checked_by (rule_in p.profile p.plating) h.commands (Some (Hit point)))) (sym h.start))
 
 pub returns-clause-ok : goal.returns-clause-ok
