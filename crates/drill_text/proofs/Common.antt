@@ -20,7 +20,7 @@ pub use Rattle.drill_lines.specs.declared.command.DrillCommand.TheVariants.{Comm
 pub use Rattle.drill_lines.specs.declared.command.Part.{Part}
 pub use Rattle.drill_lines.specs.declared.command.Settings.{Settings}
 pub use Rattle.drill_lines.specs.declared.route.Machine.{Machine}
-pub use Rattle.drill_text.specs.Grammar.{AreEntries, IsEntry, IsRepeated, Spells, IsText, lines_of}
+pub use Rattle.drill_text.specs.Grammar.{AreEntries, IsWideEntry, IsRepeated, Spells, IsText, lines_of}
 pub use Rattle.drill_text.specs.Holding.{Advances, HasFault, Holds, Refuses, RefusesText}
 pub use Rattle.drill_text.specs.Holes.{DrillPath, coordinate_in, diameter_after, hole_of, holes_at, holes_of, path_at, point_at, unit_after, unit_or}
 pub use Rattle.drill_text.specs.Inner.FastPath.{HasLeadingHit, HasLineEnd, IsLeadingRun, MayLead}

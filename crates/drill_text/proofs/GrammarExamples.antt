@@ -1,5 +1,5 @@
 -- An example of a drill text.
-use Rattle.drill_text.proofs.Common.{◌≡◌, inl, pos, ℕ, List, [], ◌∷◌, map, None, Some, refl, arith, lit≤, codes, Millimetre, parse_decimal, Start, UnitLine, Tool, HeaderEnd, Pick, Hit, Finish, further_hits, coordinate_of, Strict, IsText, lines_of}
+use Rattle.drill_text.proofs.Common.{◌≡◌, pos, ℕ, List, [], ◌∷◌, map, None, Some, refl, arith, lit≤, codes, Millimetre, parse_decimal, Start, UnitLine, Tool, HeaderEnd, Pick, Hit, Finish, further_hits, coordinate_of, Strict, IsText, lines_of}
 use Rattle.drill_text.proofs.DrillingExamples.{hit, commands}
 
 abbrev text : List ℕ
@@ -13,23 +13,23 @@ written = record {
   lines = refl;
   spells = (
     Start ∷ [],
-    inl (Some Start, (1, omega arith, refl), refl),
+    (Some Start, (1, omega arith, refl), refl),
     (
       UnitLine Millimetre None None ∷ [],
-      inl (Some (UnitLine Millimetre None None), (refl, (codes "METRIC", [], refl, (1, omega arith, refl), (0, omega arith, refl), tt)), refl),
+      (Some (UnitLine Millimetre None None), (refl, (codes "METRIC", [], refl, (1, omega arith, refl), (0, omega arith, refl), tt)), refl),
       (
         Tool 1 (pos 40_000_000) ∷ [],
-        inl (Some (Tool 1 (pos 40_000_000)), (refl, (codes "1", [], codes "0.4", [], refl, (refl, refl, lit≤ tt), lit≤ tt, (refl, refl), (refl, refl), refl, refl)), refl),
+        (Some (Tool 1 (pos 40_000_000)), (refl, (codes "1", [], codes "0.4", [], refl, (refl, refl, lit≤ tt), lit≤ tt, (refl, refl), (refl, refl), refl, refl)), refl),
         (
           HeaderEnd ∷ [],
-          inl (Some HeaderEnd, (1, omega arith, refl), refl),
+          (Some HeaderEnd, (1, omega arith, refl), refl),
           (
             Pick 1 ∷ [],
-            inl (Some (Pick 1), (refl, (codes "1", [], refl, (refl, refl, lit≤ tt), (refl, refl))), refl),
+            (Some (Pick 1), (refl, (codes "1", [], refl, (refl, refl, lit≤ tt), (refl, refl))), refl),
             (
               hit ∷ [],
-              inl (Some hit, (refl, (codes "X1.0", codes "Y2.0", refl, (codes "1.0", refl, refl), (codes "2.0", refl, refl), refl)), refl),
-              (Finish ∷ [], inl (Some Finish, (1, omega arith, refl), refl), ([], inl (None, (0, omega arith, refl), refl), refl)),
+              (Some hit, (refl, (codes "X1.0", codes "Y2.0", refl, (codes "1.0", refl, refl), (codes "2.0", refl, refl), refl)), refl),
+              (Finish ∷ [], (Some Finish, (1, omega arith, refl), refl), ([], (None, (0, omega arith, refl), refl), refl)),
             ),
           ),
         ),

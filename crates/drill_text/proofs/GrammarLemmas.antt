@@ -1,5 +1,5 @@
 -- A text that spells commands, and one that is written for them.
-use Rattle.drill_text.proofs.Common.{◌≡◌, inl, inr, ℕ, zero, suc, true, cond, ◌||◌, List, [], ◌∷◌, ◌++◌, map, Option, None, Ok, refl, sym, ap, subst, ◌∙◌, arith, append_assoc, list_any, flat_map, AllByRecursion, Contains, onto_first, option_to_list, ne_eqb, ◌>>=◌, bind_ok, Strict, CoordinateFormat, DrillCommand, without_end_blanks, meaning, written_is_answered, bytes_of, HasNoBreak, Splits, settings_after, is_finish, said_first, spelled_after, AreWithinLimit, SpellsText, lines_of, AreEntries, IsText, IsWithinLimits, SpelledIsWritten}
+use Rattle.drill_text.proofs.Common.{◌≡◌, ℕ, zero, suc, true, cond, ◌||◌, List, [], ◌∷◌, ◌++◌, map, Option, None, Ok, refl, sym, ap, subst, ◌∙◌, arith, append_assoc, list_any, flat_map, AllByRecursion, Contains, onto_first, option_to_list, ne_eqb, ◌>>=◌, bind_ok, Strict, CoordinateFormat, DrillCommand, without_end_blanks, meaning, written_is_answered, bytes_of, HasNoBreak, Splits, settings_after, is_finish, said_first, spelled_after, AreWithinLimit, SpellsText, lines_of, AreEntries, IsText, IsWithinLimits, SpelledIsWritten}
 use Rattle.grid_units.proofs.ListLemmas.{list_any_element}
 use Rattle.drill_lines.specs.declared.command.DrillCommand.TheVariants as command
 use Rattle.drill_lines.proofs.Runs.{or_right}
@@ -14,12 +14,10 @@ lines_in entries = flat_map (λ entry. entry) entries
 
 entries_spell : (earlier : List (List ℕ)) (before : List DrillCommand) (entries : List (List (List ℕ))) (commands : List DrillCommand) → AreEntries Strict earlier before entries commands → spelled_after before (lines_in entries) ≡ Ok commands
 entries_spell earlier before [] commands e = ap (λ (cs : List DrillCommand). Ok cs) (sym e)
-entries_spell earlier before ((line ∷ []) ∷ entries) commands (spelled, inl (one, is, same), rest) =
+entries_spell earlier before ((line ∷ []) ∷ entries) commands (spelled, (one, is, same), rest) =
     ap (λ r. r >>= λ o. spelled_after (before ++ option_to_list o) (lines_in entries)) (written_is_answered (settings_after before) (without_end_blanks line) one is)
     ∙ (ap (λ (cs : List DrillCommand). spelled_after (before ++ cs) (lines_in entries)) (sym same) ∙ entries_spell (earlier ++ line ∷ []) (before ++ spelled) entries commands rest)
-entries_spell earlier before ((line ∷ []) ∷ entries) commands (spelled, inr never, rest) = absurd never
-entries_spell earlier before (entry ∷ entries) commands (spelled, inl (one, is, same), rest) = absurd is
-entries_spell earlier before (entry ∷ entries) commands (spelled, inr never, rest) = absurd never
+entries_spell earlier before (entry ∷ entries) commands (spelled, never, rest) = absurd never
 
 -- each line alone
 alone : List ℕ → List (List ℕ)
@@ -35,7 +33,7 @@ unfolding alone
 spelled_entries earlier before [] commands e = let same : before ≡ commands = cc in sym same
 spelled_entries earlier before (line ∷ lines) commands e =
     let b = bind_ok (meaning (settings_after before) (without_end_blanks line)) (λ o. spelled_after (before ++ option_to_list o) lines) commands e in
-    (option_to_list b.0, inl (b.0, answers_are_written (settings_after before) (without_end_blanks line) b.0 b.1, refl), spelled_entries (earlier ++ line ∷ []) (before ++ option_to_list b.0) lines commands b.2)
+    (option_to_list b.0, (b.0, answers_are_written (settings_after before) (without_end_blanks line) b.0 b.1, refl), spelled_entries (earlier ++ line ∷ []) (before ++ option_to_list b.0) lines commands b.2)
 
 -- ---- cutting at LF
 

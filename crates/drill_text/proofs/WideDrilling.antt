@@ -1,5 +1,5 @@
 -- The legal commands of a wide text drill in the body alone, and so they drill the holes that are listed of them.
-use Rattle.drill_text.proofs.Common.{◌≡◌, ℕ, true, List, [], ◌∷◌, ◌++◌, Option, None, Some, inl, inr, refl, sym, subst, ◌∙◌, append_assoc, option_to_list, Part, Settings, CoordinateFormat, DrillCommand, Wide, without_end_blanks, IsAlone, Machine, machine_after, said_first, settings_after, part_after, drills, AreEntries, IsEntry, WideHolesAreDrilled, append-nil, map, Coordinates, Repeat, further_hits, hit_on, IsRepeated, Spells}
+use Rattle.drill_text.proofs.Common.{◌≡◌, ℕ, true, List, [], ◌∷◌, ◌++◌, Option, None, Some, inl, inr, refl, sym, subst, ◌∙◌, append_assoc, option_to_list, Part, Settings, CoordinateFormat, DrillCommand, Wide, without_end_blanks, IsAlone, Machine, machine_after, said_first, settings_after, part_after, drills, AreEntries, IsWideEntry, WideHolesAreDrilled, append-nil, map, Coordinates, Repeat, further_hits, hit_on, IsRepeated, Spells}
 use Rattle.std.specs.List.{range_with_len}
 use Rattle.drill_lines.specs.declared.command.Part.TheVariants as part
 use Rattle.drill_lines.specs.declared.command.DrillCommand.TheVariants as command
@@ -30,13 +30,13 @@ alone_in_body settings now line c (stands, inr (inr h)) d = let e = h.1 in absur
 alone_in_body settings now line c h d = absurd cc
 
 -- and so do the lines of a route
-entry_in_body : (earlier : List (List ℕ)) (settings : Settings) (entry : List (List ℕ)) (c : DrillCommand) → IsEntry Wide earlier settings entry (Some c) → drills c ≡ true → settings.part ≡ part.Body
+entry_in_body : (earlier : List (List ℕ)) (settings : Settings) (entry : List (List ℕ)) (c : DrillCommand) → IsWideEntry earlier settings entry (Some c) → drills c ≡ true → settings.part ≡ part.Body
 entry_in_body earlier settings (line ∷ []) c h d = alone_in_body settings (machine_after (map without_end_blanks earlier)) (without_end_blanks line) c h d
 entry_in_body earlier settings (first ∷ second ∷ third ∷ fourth ∷ []) (command.Slot p q) h d = h.in_body
 entry_in_body earlier settings entry c h d = absurd h
 
 -- a line that repeats a hit stands in the body
-repeat_in_body : (earlier : List (List ℕ)) (before : List DrillCommand) (entry : List (List ℕ)) (spelled : List DrillCommand) → IsRepeated Wide earlier before entry spelled
+repeat_in_body : (earlier : List (List ℕ)) (before : List DrillCommand) (entry : List (List ℕ)) (spelled : List DrillCommand) → IsRepeated earlier before entry spelled
     → (repeat : Repeat) × (part_after before ≡ part.Body) × (spelled ≡ further_hits before repeat)
 repeat_in_body earlier before (line ∷ []) spelled (repeat, hit, drilling, is_line, same) = (repeat, is_line.0, same)
 repeat_in_body earlier before entry spelled h = absurd h
@@ -57,7 +57,7 @@ spelled_in_body earlier before (entry ∷ entries) commands h =
     by : (spelled : List DrillCommand) → Spells Wide earlier before entry spelled → InBodyAfter (before ++ spelled) commands → InBodyAfter before commands
     by spelled (inl (one, is, same)) rest =
         body_next before commands one
-        (λ c e d. entry_in_body earlier (settings_after before) entry c (subst (IsEntry Wide earlier (settings_after before) entry) e is) d)
+        (λ c e d. entry_in_body earlier (settings_after before) entry c (subst (IsWideEntry earlier (settings_after before) entry) e is) d)
         (subst (λ (cs : List DrillCommand). InBodyAfter (before ++ cs) commands) same rest)
     by spelled (inr repeated) rest =
         let r = repeat_in_body earlier before entry spelled repeated in

@@ -1,5 +1,5 @@
 -- A text that is read in the wide profile is a wide text, by its grammar, of what it is read as.
-use Rattle.drill_text.proofs.Common.{◌≡◌, ◌≤◌, inl, inr, ℕ, suc, Bool, true, false, ltb, ◌||◌, List, [], ◌∷◌, ◌++◌, length, map, Option, None, Some, Ok, refl, sym, ap, subst, ◌∙◌, arith, append_assoc, codes, list_any, option_to_list, ltb-false, append-nil, flat_map-append, TooLong, ◌>>=◌, IsLegal, line_limit, and_false, last_or-more, list_any-more, bind_ok, CoordinateFormat, Coordinates, Machine, Part, Settings, DrillCommand, Wide, without_end_blanks, line_in, is_routing, machine_after, may_stand, wide_meaning, IsAlone, IsRoute, IsLater, IsRouteAfter, read_in_part, means, written_is_answered, bytes_of, part_set, part_after, settings_after, broken_rule_in, commands_by, is_finish, said_first, spelled_in, by_role, step_in, with_rest, AreWithinLimit, IsEntry, AreEntries, lines_of, IsText, IsWithinLimits, ReadIsWritten, ReadsBy, checked_by, Result, Reason, unwrap_or, option_map, Repeat, IsRepeated, Spells, checked_all, checked_repeat, ends_in_hit, further_hits, hit_on, repeat_after}
+use Rattle.drill_text.proofs.Common.{◌≡◌, ◌≤◌, inl, inr, ℕ, suc, Bool, true, false, ltb, ◌||◌, List, [], ◌∷◌, ◌++◌, length, map, Option, None, Some, Ok, refl, sym, ap, subst, ◌∙◌, arith, append_assoc, codes, list_any, option_to_list, ltb-false, append-nil, flat_map-append, TooLong, ◌>>=◌, IsLegal, line_limit, and_false, last_or-more, list_any-more, bind_ok, CoordinateFormat, Coordinates, Machine, Part, Settings, DrillCommand, Wide, without_end_blanks, line_in, is_routing, machine_after, may_stand, wide_meaning, IsAlone, IsRoute, IsLater, IsRouteAfter, read_in_part, means, written_is_answered, bytes_of, part_set, part_after, settings_after, broken_rule_in, commands_by, is_finish, said_first, spelled_in, by_role, step_in, with_rest, AreWithinLimit, IsWideEntry, AreEntries, lines_of, IsText, IsWithinLimits, ReadIsWritten, ReadsBy, checked_by, Result, Reason, unwrap_or, option_map, Repeat, IsRepeated, Spells, checked_all, checked_repeat, ends_in_hit, further_hits, hit_on, repeat_after}
 use Rattle.std.specs.List.{range_with_len}
 use Rattle.drill_lines.specs.Inner.RouteSteps.{is_free_to_drill}
 use Rattle.drill_lines.proofs.RepeatLemmas.{IsDrillingOn, is_repeated, on_drilling, repeat_more, repeat_written, route_drills}
@@ -196,7 +196,7 @@ module _ (format : Option CoordinateFormat) where
         fourth_is = fourth_is;
       } in
       closes earlier before line (option_to_list c) next machine.Routing g.entries (x ∷ y ∷ z ∷ []) is (g.lines ∙ ap (λ (p : List (List ℕ)). lines_in g.entries ++ p) g.waits.3) g.spells
-      (inl (c, subst (λ (o : Option DrillCommand). IsEntry Wide (lines_in g.entries) s (x ∷ y ∷ z ∷ line ∷ []) o) (sym some) is_route, refl))
+      (inl (c, subst (λ (o : Option DrillCommand). IsWideEntry (lines_in g.entries) s (x ∷ y ∷ z ∷ line ∷ []) o) (sym some) is_route, refl))
 
   -- ---- lines
 
@@ -236,7 +236,7 @@ module _ (format : Option CoordinateFormat) where
       let more = repeat_more (map without_end_blanks earlier) trimmed (written.1 ++ written.2) is.drilling written.3 in
       let none : h.grouped.pending ≡ [] = none_waits h.r s (machine_after (map without_end_blanks (lines_in h.grouped.entries))) h.grouped.pending h.grouped.waits (sym (route_drills h.r s (map without_end_blanks earlier) h.at) ∙ on_drilling (map without_end_blanks earlier) is.drilling) in
       let whole : earlier ≡ lines_in h.grouped.entries = h.grouped.lines ∙ (ap (λ (p : List (List ℕ)). lines_in h.grouped.entries ++ p) none ∙ append-nil (lines_in h.grouped.entries)) in
-      let entry : IsRepeated Wide (lines_in h.grouped.entries) before (line ∷ []) (further_hits before repeat) = (repeat, is.after, on_drilling _ (subst (λ (l : List (List ℕ)). IsDrillingOn (map without_end_blanks l)) whole is.drilling), written, refl) in
+      let entry : IsRepeated (lines_in h.grouped.entries) before (line ∷ []) (further_hits before repeat) = (repeat, is.after, on_drilling _ (subst (λ (l : List (List ℕ)). IsDrillingOn (map without_end_blanks l)) whole is.drilling), written, refl) in
       subst (IsParsed (earlier ++ line ∷ [])) j.0 (record {
         r = route.Free machine.Drilling;
         grouped = closes earlier before line (further_hits before repeat) (route.Free machine.Drilling) machine.Drilling h.grouped.entries [] refl (whole ∙ sym (append-nil (lines_in h.grouped.entries))) h.grouped.spells (inr entry);

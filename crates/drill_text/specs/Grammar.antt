@@ -23,24 +23,25 @@ use Rattle.grid_units.specs.declared.profile.Profile.TheVariants.{Strict, Wide}
 abbrev pub lines_of : List ℕ → List (List ℕ)
 lines_of text = slice_split (λ b. b == ascii.line_feed) text
 
--- after these lines, lines that spell at most one command together, without the blanks at their ends: one by itself, or in the wide profile four of a route
-abbrev pub IsEntry : Profile → List (List ℕ) → Settings → List (List ℕ) → Option DrillCommand → Type 0
-IsEntry Strict earlier settings (line ∷ []) spelled = IsLine settings (without_end_blanks line) spelled
-IsEntry Wide earlier settings (line ∷ []) spelled = IsAlone settings (machine_after (map without_end_blanks earlier)) (without_end_blanks line) spelled
-IsEntry Wide earlier settings (a ∷ b ∷ c ∷ d ∷ []) (Some (Slot from to)) =
+-- in the wide profile, after these lines, lines that spell at most one command together, without the blanks at their ends: one by itself, or four of a route
+abbrev pub IsWideEntry : List (List ℕ) → Settings → List (List ℕ) → Option DrillCommand → Type 0
+IsWideEntry earlier settings (line ∷ []) spelled = IsAlone settings (machine_after (map without_end_blanks earlier)) (without_end_blanks line) spelled
+IsWideEntry earlier settings (a ∷ b ∷ c ∷ d ∷ []) (Some (Slot from to)) =
     IsRoute settings (machine_after (map without_end_blanks earlier)) (without_end_blanks a) (without_end_blanks b) (without_end_blanks c) (without_end_blanks d) from to
-IsEntry profile earlier settings lines spelled = ⊥
+IsWideEntry earlier settings lines spelled = ⊥
 
 -- in the wide profile a line that repeats a hit spells its further hits: right after the hit, where no line of a route is due and the machine drills
-abbrev pub IsRepeated : Profile → List (List ℕ) → List DrillCommand → List (List ℕ) → List DrillCommand → Type 0
-IsRepeated Wide earlier before (line ∷ []) spelled = (repeat : Repeat) × IsTrue (ends_in_hit before) × IsTrue (drills_on (map without_end_blanks earlier))
+abbrev pub IsRepeated : List (List ℕ) → List DrillCommand → List (List ℕ) → List DrillCommand → Type 0
+IsRepeated earlier before (line ∷ []) spelled = (repeat : Repeat) × IsTrue (ends_in_hit before) × IsTrue (drills_on (map without_end_blanks earlier))
     × IsRepeatLine (settings_after before) (without_end_blanks line) repeat × (spelled ≡ further_hits before repeat)
-IsRepeated _ earlier before entry spelled = ⊥
+IsRepeated earlier before entry spelled = ⊥
 
--- after these lines and commands, an entry spells these: at most one command, or the further hits of a repeat
+-- after these lines and commands an entry spells these: a line at most one command, or in the wide profile lines of one entry, or the further hits of a repeat
 abbrev pub Spells : Profile → List (List ℕ) → List DrillCommand → List (List ℕ) → List DrillCommand → Type 0
-Spells profile earlier before entry spelled =
-    ((one : Option DrillCommand) × IsEntry profile earlier (settings_after before) entry one × (spelled ≡ option_to_list one)) ⊎ IsRepeated profile earlier before entry spelled
+Spells Strict earlier before (line ∷ []) cs = (one : Option DrillCommand) × IsLine (settings_after before) (without_end_blanks line) one × (cs ≡ option_to_list one)
+Spells Wide earlier before entry cs =
+    ((one : Option DrillCommand) × IsWideEntry earlier (settings_after before) entry one × (cs ≡ option_to_list one)) ⊎ IsRepeated earlier before entry cs
+Spells profile earlier before entry cs = ⊥
 
 -- The commands that stand before, and then those that the entries spell in order, each by the lines and commands before it.
 abbrev pub AreEntries : Profile → List (List ℕ) → List DrillCommand → List (List (List ℕ)) → List DrillCommand → Type 0
