@@ -45,8 +45,7 @@ repeat_fields settings digits text = option_map (repeat_of digits) (step_row set
 
 -- the row of lines of the body that are `R`, digits and a step: `R3X2.54`
 unfoldable pub repeat_row : Part → Settings → List ℕ → RowOf Repeat
-repeat_row part.Body settings line =
-    option_and_then (λ rest. repeat_fields settings (take_while is_digit rest) (drop (prefix_len is_digit rest) rest)) (strip_prefix (codes "R") line)
+repeat_row part.Body settings line = option_and_then (λ rest. repeat_fields settings (take_while is_digit rest) (drop (prefix_len is_digit rest) rest)) (strip_prefix (codes "R") line)
 repeat_row _ settings line = None
 
 -- ---- a line after these
