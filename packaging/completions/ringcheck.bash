@@ -37,12 +37,12 @@ _ringcheck() {
       mapfile -t COMPREPLY < <(compgen -d -- "$word")
       return
       ;;
-    --ring | --gap | --max) return ;;
+    --ring | --gap | --drill-off | --drill-wide | --max) return ;;
   esac
   case $command in
     check | certify) options='--ring --gap --profile --in --help' ;;
     draw) options='--ring --gap --profile --outline --in --help' ;;
-    report) options='--ring --gap --profile --max --waive --outline --format --exit-zero --in --help' ;;
+    report) options='--ring --gap --drill-off --drill-wide --profile --max --waive --outline --format --exit-zero --in --help' ;;
     measure) options='--profile --format --in --help' ;;
     verify) options='--in --help' ;;
     manifest) options='--why --profile --in --help' ;;

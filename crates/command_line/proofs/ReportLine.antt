@@ -89,28 +89,34 @@ given_still id rows =
     go (Some r) b = refl
 
 -- the options before the manifest
-abbrev options : Text → Text → Option Text → Option Text → Option Text → Option Text → Option Text → Option Text → Options
-options r g f n v l o i = (codes "ring", Some r) ∷ (codes "gap", Some g) ∷ (codes "profile", f) ∷ (codes "max", n) ∷ (codes "waive", v) ∷ (codes "outline", l) ∷ (codes "format", o) ∷ (codes "in", i) ∷ []
+abbrev options : Text → Text → Option Text → Option Text → Option Text → Option Text → Option Text → Option Text → Option Text → Option Text → Options
+options r g d a f n v l o i =
+    (codes "ring", Some r) ∷ (codes "gap", Some g) ∷ (codes "drill-off", d) ∷ (codes "drill-wide", a) ∷ (codes "profile", f) ∷ (codes "max", n)
+    ∷ (codes "waive", v) ∷ (codes "outline", l) ∷ (codes "format", o) ∷ (codes "in", i) ∷ []
 
-abbrev pub report_options : Text → Text → Option Text → Option Text → Option Text → Option Text → Option Text → Option Text → Text → Options
-report_options r g f n v l o i m = options r g f n v l o i ++ (codes "manifest", Some m) ∷ []
+abbrev pub report_options : Text → Text → Option Text → Option Text → Option Text → Option Text → Option Text → Option Text → Option Text → Option Text → Text → Options
+report_options r g d a f n v l o i m = options r g d a f n v l o i ++ (codes "manifest", Some m) ∷ []
 
-reads_report : (z : Bool) (r g : Text) (f n v l o i : Option Text) (m : Text) → ArePlain (options r g f n v l o i) → is_plain_word m ≡ true
-    → reading report_shape (flag_words (codes "--exit-zero") z ++ words_of (options r g f n v l o i) (m ∷ [])) ≡ (true, rows_of_report z (report_options r g f n v l o i m))
+reads_report : (z : Bool) (r g : Text) (d a f n v l o i : Option Text) (m : Text) → ArePlain (options r g d a f n v l o i) → is_plain_word m ≡ true
+    → reading report_shape (flag_words (codes "--exit-zero") z ++ words_of (options r g d a f n v l o i) (m ∷ [])) ≡ (true, rows_of_report z (report_options r g d a f n v l o i m))
 unfolding clap_on_literals
-reads_report true r g f n v l o i m plain s =
-    let words = words_of (options r g f n v l o i) (m ∷ []) in
-    read_after report_shape (codes "--exit-zero" ∷ words) (bare (rows_of flag_given)) flag_given (options r g f n v l o i) (codes "manifest") m (rows_of_report true (report_options r g f n v l o i m))
+reads_report true r g d a f n v l o i m plain s =
+    let words = words_of (options r g d a f n v l o i) (m ∷ []) in
+    let all = report_options r g d a f n v l o i m in
+    read_after report_shape (codes "--exit-zero" ∷ words) (bare (rows_of flag_given)) flag_given (options r g d a f n v l o i) (codes "manifest") m (rows_of_report true all)
     (walk_word report_shape (walk_at nothing_held idle 1) (codes "--exit-zero") (walk_at (bare (rows_of flag_given)) idle 1) words to_flag)
-    (record { comes_to = refl; none_skipped = refl; passes = refl }) (refl, (refl, (refl, (refl, (refl, (refl, (refl, (refl, tt)))))))) refl plain s (keeps_rows (report_options r g f n v l o i m)) refl (λ it. refl)
-reads_report false r g f n v l o i m plain s =
-    read_after report_shape (words_of (options r g f n v l o i) (m ∷ [])) nothing_held [] (options r g f n v l o i) (codes "manifest") m (rows_of_report false (report_options r g f n v l o i m)) refl
-    (record { comes_to = refl; none_skipped = refl; passes = refl }) (refl, (refl, (refl, (refl, (refl, (refl, (refl, (refl, tt)))))))) refl plain s (adds_default (report_options r g f n v l o i m) refl) refl
-    (λ it. given_still it (rows_of (report_options r g f n v l o i m)))
+    (record { comes_to = refl; none_skipped = refl; passes = refl })
+    (refl, (refl, (refl, (refl, (refl, (refl, (refl, (refl, (refl, (refl, tt)))))))))) refl plain s (keeps_rows all) refl (λ it. refl)
+reads_report false r g d a f n v l o i m plain s =
+    let all = report_options r g d a f n v l o i m in
+    read_after report_shape (words_of (options r g d a f n v l o i) (m ∷ [])) nothing_held [] (options r g d a f n v l o i) (codes "manifest") m (rows_of_report false all) refl
+    (record { comes_to = refl; none_skipped = refl; passes = refl })
+    (refl, (refl, (refl, (refl, (refl, (refl, (refl, (refl, (refl, (refl, tt)))))))))) refl plain s (adds_default all refl) refl (λ it. given_still it (rows_of all))
 
-pub report_answer : (z : Bool) (r g : Text) (f n v l o i : Option Text) (m : Text) → is_plain_word r ≡ true → is_plain_word g ≡ true → is_plain_if_some f ≡ true → is_plain_if_some n ≡ true → is_plain_if_some v ≡ true
-    → is_plain_if_some l ≡ true → is_plain_if_some o ≡ true → is_plain_if_some i ≡ true → is_plain_word m ≡ true → answer (report_words z r g f n v l o i m) ≡ (true, Some (codes "report", rows_of_report z (report_options r g f n v l o i m)))
+pub report_answer : (z : Bool) (r g : Text) (d a f n v l o i : Option Text) (m : Text) → is_plain_word r ≡ true → is_plain_word g ≡ true → is_plain_if_some d ≡ true → is_plain_if_some a ≡ true
+    → is_plain_if_some f ≡ true → is_plain_if_some n ≡ true → is_plain_if_some v ≡ true → is_plain_if_some l ≡ true → is_plain_if_some o ≡ true → is_plain_if_some i ≡ true → is_plain_word m ≡ true
+    → answer (report_words z r g d a f n v l o i m) ≡ (true, Some (codes "report", rows_of_report z (report_options r g d a f n v l o i m)))
 unfolding clap_on_literals
-report_answer z r g f n v l o i m p q y t w x u b s =
-    is_answer (codes "report") (λ rest. refl, λ rest. refl) (flag_words (codes "--exit-zero") z ++ words_of (options r g f n v l o i) (m ∷ [])) (rows_of_report z (report_options r g f n v l o i m))
-    (reads_report z r g f n v l o i m (p, (q, (y, (t, (w, (x, (u, (b, tt)))))))) s)
+report_answer z r g d a f n v l o i m p q j k y t w x u b s =
+    is_answer (codes "report") (λ rest. refl, λ rest. refl) (flag_words (codes "--exit-zero") z ++ words_of (options r g d a f n v l o i) (m ∷ [])) (rows_of_report z (report_options r g d a f n v l o i m))
+    (reads_report z r g d a f n v l o i m (p, (q, (j, (k, (y, (t, (w, (x, (u, (b, tt)))))))))) s)

@@ -50,21 +50,23 @@ is_on : (z on : Bool) (text : Option Text) → text ≡ Some (text_of z) → IsF
 is_on true on text e is = is.yes e
 is_on false on text e is = is.no e
 
-pub is_report : (z : Bool) (r g : Text) (f n v l o i : Option Text) (m : Text) (request : Request) → IsRequestOf (Some (codes "report", rows_of_report z (report_options r g f n v l o i m))) request
-    → IsReport z r g f n v l o m request
-is_report z r g f n v l o i m (Report options manifest) a =
-    let all = report_options r g f n v l o i m in (
-      is_on z options.exit_zero _ (flag_is z all refl) a.8,
+pub is_report : (z : Bool) (r g : Text) (d w f n v l o i : Option Text) (m : Text) (request : Request) → IsRequestOf (Some (codes "report", rows_of_report z (report_options r g d w f n v l o i m))) request
+    → IsReport z r g d w f n v l o m request
+is_report z r g d w f n v l o i m (Report options manifest) a =
+    let all = report_options r g d w f n v l o i m in (
+      is_on z options.exit_zero _ (flag_is z all refl) a.10,
       some_is options.ring.now r (sym a.1 ∙ value_is z (codes "ring") all refl),
       some_is options.gap.now g (sym a.2 ∙ value_is z (codes "gap") all refl),
-      sym a.3 ∙ value_is z (codes "profile") all refl,
-      sym a.4 ∙ value_is z (codes "max") all refl,
-      sym a.5 ∙ value_is z (codes "waive") all refl,
-      sym a.6 ∙ value_is z (codes "outline") all refl,
-      sym a.7 ∙ value_is z (codes "format") all refl,
-      some_is manifest.now m (sym a.9 ∙ value_is z (codes "manifest") all refl),
+      sym a.3 ∙ value_is z (codes "drill-off") all refl,
+      sym a.4 ∙ value_is z (codes "drill-wide") all refl,
+      sym a.5 ∙ value_is z (codes "profile") all refl,
+      sym a.6 ∙ value_is z (codes "max") all refl,
+      sym a.7 ∙ value_is z (codes "waive") all refl,
+      sym a.8 ∙ value_is z (codes "outline") all refl,
+      sym a.9 ∙ value_is z (codes "format") all refl,
+      some_is manifest.now m (sym a.11 ∙ value_is z (codes "manifest") all refl),
     )
-is_report z r g f n v l o i m request a = absurd (differ (codes "report") a.0 refl)
+is_report z r g d w f n v l o i m request a = absurd (differ (codes "report") a.0 refl)
 
 pub is_draw : (o : Option (Text × Text)) (f l i : Option Text) (m : Text) (request : Request) → IsRequestOf (Some (codes "draw", rows_of (draw_options o f l i m))) request → IsDraw o f l m request
 is_draw o f l i m (Draw options manifest) a =

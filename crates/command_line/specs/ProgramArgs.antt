@@ -68,11 +68,13 @@ measure_app =
     with_rule (with_rule (with_rule (with_rule (new_app (codes "measure")) (optional_option (codes "profile"))) (optional_option (codes "format"))) folder_option)
     (positional (codes "manifest"))
 
--- `report --ring MM --gap MM [--profile strict|wide] [--max N] [--waive FILE] [--outline FILE] [--format text|html|json|waivers] [--exit-zero] [--in FOLDER] MANIFEST`
+-- `report --ring MM --gap MM [--drill-off MM --drill-wide MM] [--profile strict|wide] [--max N] [--waive FILE] [--outline FILE] [--format text|html|json|waivers] [--exit-zero] [--in FOLDER] MANIFEST`
 abbrev pub report_app : App
 report_app =
-    with_rule (with_rule (with_rule (with_rule (with_rule (with_rule (with_rule (with_rule (with_rule (with_rule (new_app (codes "report")) (option (codes "ring"))) (option (codes "gap"))) (optional_option (codes "profile"))) (optional_option (codes "max")))
-    (optional_option (codes "waive"))) (optional_option (codes "outline"))) (optional_option (codes "format"))) (flag (codes "exit-zero"))) folder_option) (positional (codes "manifest"))
+    with_rule (with_rule (with_rule (with_rule (with_rule (with_rule (with_rule (with_rule (with_rule (with_rule (with_rule (with_rule (new_app (codes "report"))
+    (option (codes "ring"))) (option (codes "gap"))) (optional_option (codes "drill-off"))) (optional_option (codes "drill-wide")))
+    (optional_option (codes "profile"))) (optional_option (codes "max"))) (optional_option (codes "waive"))) (optional_option (codes "outline")))
+    (optional_option (codes "format"))) (flag (codes "exit-zero"))) folder_option) (positional (codes "manifest"))
 
 -- `draw [--ring MM --gap MM] [--profile strict|wide] [--outline FILE] [--in FOLDER] MANIFEST`
 abbrev pub draw_app : App
@@ -135,6 +137,7 @@ IsRequestOf (Some (name, rows)) (Measure profile format manifest) =
     × (first_of (codes "format") rows ≡ option_map (λ f. f.now) format) × (first_of (codes "manifest") rows ≡ Some manifest.now)
 IsRequestOf (Some (name, rows)) (Report options manifest) =
     (name ≡ codes "report") × (first_of (codes "ring") rows ≡ Some options.ring.now) × (first_of (codes "gap") rows ≡ Some options.gap.now)
+    × (first_of (codes "drill-off") rows ≡ option_map (λ o. o.now) options.drill_off) × (first_of (codes "drill-wide") rows ≡ option_map (λ w. w.now) options.drill_wide)
     × (first_of (codes "profile") rows ≡ option_map (λ p. p.now) options.profile) × (first_of (codes "max") rows ≡ option_map (λ n. n.now) options.limit)
     × (first_of (codes "waive") rows ≡ option_map (λ w. w.now) options.waive) × (first_of (codes "outline") rows ≡ option_map (λ o. o.now) options.outline)
     × (first_of (codes "format") rows ≡ option_map (λ f. f.now) options.format) × IsFlagValue (one_of (codes "exit-zero") rows) options.exit_zero
@@ -275,20 +278,22 @@ abbrev pub IsMeasure : Option Text → Option Text → Text → Request → Type
 IsMeasure p o m (Measure profile format manifest) = (option_map (λ w. w.now) profile ≡ p) × (option_map (λ f. f.now) format ≡ o) × (manifest.now ≡ m)
 IsMeasure p o m _ = ⊥
 
--- the words `report [--exit-zero] --ring R --gap G [--profile P] [--max N] [--waive V] [--outline O] [--format F] [--in D] M`
-abbrev pub report_words : Bool → Text → Text → Option Text → Option Text → Option Text → Option Text → Option Text → Option Text → Text → List Text
-report_words exit_zero ring gap profile limit waive outline format folder manifest =
+-- the words `report [--exit-zero] --ring R --gap G [--drill-off T] [--drill-wide A] [--profile P] [--max N] [--waive V] [--outline O] [--format F] [--in D] M`
+abbrev pub report_words : Bool → Text → Text → Option Text → Option Text → Option Text → Option Text → Option Text → Option Text → Option Text → Option Text → Text → List Text
+report_words exit_zero ring gap off wide profile limit waive outline format folder manifest =
     codes "report" ∷ (flag_words (codes "--exit-zero") exit_zero ++ codes "--ring" ∷ ring ∷ codes "--gap" ∷ gap
-    ∷ (option_words (codes "--profile") profile
-    ++ (option_words (codes "--max") limit ++ (option_words (codes "--waive") waive ++ (option_words (codes "--outline") outline ++ (option_words (codes "--format") format ++ (option_words (codes "--in") folder ++ manifest ∷ [])))))))
+    ∷ (option_words (codes "--drill-off") off ++ (option_words (codes "--drill-wide") wide ++ (option_words (codes "--profile") profile
+    ++ (option_words (codes "--max") limit ++ (option_words (codes "--waive") waive ++ (option_words (codes "--outline") outline ++ (option_words (codes "--format") format
+    ++ (option_words (codes "--in") folder ++ manifest ∷ [])))))))))
 
--- the request is a report with just this ring, gap and manifest, with the flag for the status 0 or without it, and just these of a profile,
--- a limit of findings, a file of waivers, a file of an outline and a format
-abbrev pub IsReport : Bool → Text → Text → Option Text → Option Text → Option Text → Option Text → Option Text → Text → Request → Type 0
-IsReport z r g p n v l o m (Report options manifest) =
-    (options.exit_zero ≡ z) × (options.ring.now ≡ r) × (options.gap.now ≡ g) × (option_map (λ w. w.now) options.profile ≡ p) × (option_map (λ t. t.now) options.limit ≡ n)
-    × (option_map (λ w. w.now) options.waive ≡ v) × (option_map (λ f. f.now) options.outline ≡ l) × (option_map (λ f. f.now) options.format ≡ o) × (manifest.now ≡ m)
-IsReport z r g p n v l o m _ = ⊥
+-- the request is a report with just this ring, gap and manifest, with the flag for the status 0 or without it, and just these of how far holes may be drilled off and
+-- how much wider, a profile, a limit of findings, a file of waivers, a file of an outline and a format
+abbrev pub IsReport : Bool → Text → Text → Option Text → Option Text → Option Text → Option Text → Option Text → Option Text → Option Text → Text → Request → Type 0
+IsReport z r g t a p n v l o m (Report options manifest) =
+    (options.exit_zero ≡ z) × (options.ring.now ≡ r) × (options.gap.now ≡ g) × (option_map (λ w. w.now) options.drill_off ≡ t) × (option_map (λ w. w.now) options.drill_wide ≡ a)
+    × (option_map (λ w. w.now) options.profile ≡ p) × (option_map (λ c. c.now) options.limit ≡ n) × (option_map (λ w. w.now) options.waive ≡ v)
+    × (option_map (λ f. f.now) options.outline ≡ l) × (option_map (λ f. f.now) options.format ≡ o) × (manifest.now ≡ m)
+IsReport z r g t a p n v l o m _ = ⊥
 
 -- the words `draw [--profile P] [--outline O] [--in D] M` or `draw --ring R --gap G [--profile P] [--outline O] [--in D] M`
 abbrev pub draw_words : Option (Text × Text) → Option Text → Option Text → Option Text → Text → List Text

@@ -24,6 +24,10 @@ const RING: &str = "Minimum annular ring in mm, e.g. 0.125";
 
 const GAP: &str = "Minimum distance between hole edges, in mm, e.g. 0.25";
 
+const DRILL_OFF: &str = "How far a hole may be drilled off its place, in mm";
+
+const DRILL_WIDE: &str = "How much wider in radius, in mm: give both, or neither";
+
 const KIND: &str = "A Gerber layer or an Excellon drill file";
 
 const PACKAGE: &str = "Manifest of the package: a CSV file, as for check";
@@ -90,10 +94,8 @@ Example:  ringcheck measure board.csv";
 
 const REPORT_PROFILE: &str = "strict (default) or wide: see ringcheck check --help";
 
-// After `Usage: ` it stands on three lines, the others below the options of the first.
-const REPORT_USAGE: &str = "ringcheck report --ring <MM> --gap <MM> [--max <N>] [--waive <FILE>]
-                        [--outline <FILE>] [--format <NAME>] [--profile <NAME>]
-                        [--exit-zero] [--in <FOLDER>] <MANIFEST>";
+// It has too many options to name each, since help has to fit a screen of 24 lines.
+const REPORT_USAGE: &str = "ringcheck report --ring <MM> --gap <MM> [OPTIONS] <MANIFEST>";
 
 const REPORT: &str = "Findings and exit status are those of check, unless all findings are waived.
 Example:  ringcheck report --ring 0.125 --gap 0.25 board.csv";
@@ -227,7 +229,7 @@ fn measure<'a>(alloc: Global) -> Result<Command<'a>, AllocError>
     .arg(required_arg(alloc, "manifest", "MANIFEST", PACKAGE))
 }
 
-/// `report --ring MM --gap MM [--profile strict|wide] [--max N] [--waive FILE] [--outline FILE] [--format text|html|json|waivers] [--exit-zero] [--in FOLDER] MANIFEST`
+/// `report --ring MM --gap MM [--drill-off MM --drill-wide MM] [--profile strict|wide] [--max N] [--waive FILE] [--outline FILE] [--format text|html|json|waivers] [--exit-zero] [--in FOLDER] MANIFEST`
 fn report<'a>(alloc: Global) -> Result<Command<'a>, AllocError>
     ensures { IfOk result (λ c. app_of c ≡ report_app) }
 {
@@ -240,6 +242,8 @@ fn report<'a>(alloc: Global) -> Result<Command<'a>, AllocError>
     )
     .arg(ring_arg(alloc))?
     .arg(gap_arg(alloc))?
+    .arg(optional_option_arg(alloc, "drill-off", "MM", DRILL_OFF))?
+    .arg(optional_option_arg(alloc, "drill-wide", "MM", DRILL_WIDE))?
     .arg(optional_option_arg(alloc, "profile", "NAME", REPORT_PROFILE))?
     .arg(optional_option_arg(alloc, "max", "N", MAX))?
     .arg(optional_option_arg(alloc, "waive", "FILE", WAIVE))?

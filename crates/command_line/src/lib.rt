@@ -2,7 +2,7 @@
 //!
 //! ```text
 //! ringcheck check --ring MM --gap MM [--profile strict|wide] [--in FOLDER] MANIFEST
-//! ringcheck report --ring MM --gap MM [--profile strict|wide] [--max N] [--waive FILE] [--outline FILE] [--format text|html|json|waivers] [--exit-zero] [--in FOLDER] MANIFEST
+//! ringcheck report --ring MM --gap MM [--drill-off MM --drill-wide MM] [--profile strict|wide] [--max N] [--waive FILE] [--outline FILE] [--format text|html|json|waivers] [--exit-zero] [--in FOLDER] MANIFEST
 //! ringcheck measure [--profile strict|wide] [--format text|json] [--in FOLDER] MANIFEST
 //! ringcheck draw [--ring MM --gap MM] [--profile strict|wide] [--outline FILE] [--in FOLDER] MANIFEST
 //! ringcheck certify --ring MM --gap MM [--profile strict|wide] [--in FOLDER] MANIFEST
@@ -48,6 +48,10 @@ pub struct ReportWords<'a> {
     pub ring: &'a str,
     /// The gap in mm.
     pub gap: &'a str,
+    /// How far in mm a hole may be drilled off its place, where it is given. It may be there without the other.
+    pub drill_off: Option<&'a str>,
+    /// How much wider in radius, in mm, a hole may be drilled, where it is given. It may be there without the other.
+    pub drill_wide: Option<&'a str>,
     /// The word for the profile that the files are read in, where one is given.
     pub profile: Option<&'a str>,
     /// The most findings to show; without it all of them are shown.
@@ -174,10 +178,10 @@ pub fn parse<'a>(alloc: Global, words: &'a [&'a str]) -> Result<CommandLine<'a>,
         → ParsesAs folder (IsVerify c) result }
     ensures measure { (profile format folder : Option Text) (m : Text) → map (λ w. w.now) words.entry.now ≡ measure_words profile format folder m → is_plain_if_some profile ≡ true
         → is_plain_if_some format ≡ true → is_plain_if_some folder ≡ true → is_plain_word m ≡ true → ParsesAs folder (IsMeasure profile format m) result }
-    ensures report { (exit_zero : Bool) (r g : Text) (profile limit waive outline format folder : Option Text) (m : Text)
-        → map (λ w. w.now) words.entry.now ≡ report_words exit_zero r g profile limit waive outline format folder m
-        → is_plain_word r ≡ true → is_plain_word g ≡ true → is_plain_if_some profile ≡ true → is_plain_if_some limit ≡ true → is_plain_if_some waive ≡ true → is_plain_if_some outline ≡ true
-        → is_plain_if_some format ≡ true → is_plain_if_some folder ≡ true → is_plain_word m ≡ true → ParsesAs folder (IsReport exit_zero r g profile limit waive outline format m) result }
+    ensures report { (exit_zero : Bool) (r g : Text) (off wide profile limit waive outline format folder : Option Text) (m : Text)
+        → map (λ w. w.now) words.entry.now ≡ report_words exit_zero r g off wide profile limit waive outline format folder m
+        → is_plain_word r ≡ true → is_plain_word g ≡ true → is_plain_if_some off ≡ true → is_plain_if_some wide ≡ true → is_plain_if_some profile ≡ true → is_plain_if_some limit ≡ true → is_plain_if_some waive ≡ true → is_plain_if_some outline ≡ true
+        → is_plain_if_some format ≡ true → is_plain_if_some folder ≡ true → is_plain_word m ≡ true → ParsesAs folder (IsReport exit_zero r g off wide profile limit waive outline format m) result }
     ensures draw { (rules : Option (Text × Text)) (profile outline folder : Option Text) (m : Text) → map (λ w. w.now) words.entry.now ≡ draw_words rules profile outline folder m
         → are_plain_rules rules ≡ true → is_plain_if_some profile ≡ true → is_plain_if_some outline ≡ true → is_plain_if_some folder ≡ true → is_plain_word m ≡ true → ParsesAs folder (IsDraw rules profile outline m) result }
     ensures show { (k : Text) (profile folder : Option Text) (f : Text) → map (λ w. w.now) words.entry.now ≡ show_words k profile folder f → is_plain_word k ≡ true
@@ -292,6 +296,8 @@ fn report_request<'a>(values: &ArgMatches<'a>) -> Option<Request<'a>>
     let options = ReportWords {
         ring: value(values, "ring")?,
         gap: value(values, "gap")?,
+        drill_off: value(values, "drill-off"),
+        drill_wide: value(values, "drill-wide"),
         profile: value(values, "profile"),
         limit: value(values, "max"),
         waive: value(values, "waive"),

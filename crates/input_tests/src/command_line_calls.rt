@@ -446,18 +446,18 @@ const HELP: [(&str, Parts); 12] = [
     (
         "report --help",
         &[
-            "ringcheck report --ring <MM> --gap <MM> [--max <N>] [--waive <FILE>]\n",
-            " [--outline <FILE>] [--format <NAME>] [--profile <NAME>]\n",
-            " [--exit-zero] [--in <FOLDER>] <MANIFEST>\n",
+            "ringcheck report --ring <MM> --gap <MM> [OPTIONS] <MANIFEST>\n",
             "Explain each finding: how far below the rule, and why",
-            "--ring <MM>       Minimum annular ring in mm, e.g. 0.125\n",
-            "--gap <MM>        Minimum distance between hole edges, in mm, e.g. 0.25\n",
-            "--max <N>         Show at most N findings (default: all)\n",
-            "--waive <FILE>    File of waivers: the findings that are accepted\n",
-            "--outline <FILE>  Gerber file of the board outline, for --format html\n",
-            "--format <NAME>   text (default), for people; html, a page for browsers;\n",
-            "--exit-zero       Exit with status 0 even if there are findings\n",
-            "--in <FOLDER>     Folder that file names are relative to\n",
+            "--ring <MM>        Minimum annular ring in mm, e.g. 0.125\n",
+            "--gap <MM>         Minimum distance between hole edges, in mm, e.g. 0.25\n",
+            "--drill-off <MM>   How far a hole may be drilled off its place, in mm\n",
+            "--drill-wide <MM>  How much wider in radius, in mm: give both, or neither\n",
+            "--max <N>          Show at most N findings (default: all)\n",
+            "--waive <FILE>     File of waivers: the findings that are accepted\n",
+            "--outline <FILE>   Gerber file of the board outline, for --format html\n",
+            "--format <NAME>    text (default), for people; html, a page for browsers;\n",
+            "--exit-zero        Exit with status 0 even if there are findings\n",
+            "--in <FOLDER>      Folder that file names are relative to\n",
         ],
     ),
     (
@@ -626,75 +626,84 @@ fn a_measure_is_asked_for(rt: HostRuntime) {
     }
 }
 
-const REPORTS: [(&str, &str); 16] = [
+const REPORTS: [(&str, &str); 18] = [
     (
         "report --ring 1 --gap 2 m.csv",
-        "Report { options: ReportWords { ring: \"1\", gap: \"2\", profile: None, limit: None, waive: None, outline: None, format: None, exit_zero: false }, manifest: \"m.csv\" }",
+        "Report { options: ReportWords { ring: \"1\", gap: \"2\", drill_off: None, drill_wide: None, profile: None, limit: None, waive: None, outline: None, format: None, exit_zero: false }, manifest: \"m.csv\" }",
     ),
     (
         "report --ring 1 --gap 2 --max 2 m.csv",
-        "Report { options: ReportWords { ring: \"1\", gap: \"2\", profile: None, limit: Some(\"2\"), waive: None, outline: None, format: None, exit_zero: false }, manifest: \"m.csv\" }",
+        "Report { options: ReportWords { ring: \"1\", gap: \"2\", drill_off: None, drill_wide: None, profile: None, limit: Some(\"2\"), waive: None, outline: None, format: None, exit_zero: false }, manifest: \"m.csv\" }",
     ),
     (
         "report --max 2 m.csv --gap 2 --ring 1",
-        "Report { options: ReportWords { ring: \"1\", gap: \"2\", profile: None, limit: Some(\"2\"), waive: None, outline: None, format: None, exit_zero: false }, manifest: \"m.csv\" }",
+        "Report { options: ReportWords { ring: \"1\", gap: \"2\", drill_off: None, drill_wide: None, profile: None, limit: Some(\"2\"), waive: None, outline: None, format: None, exit_zero: false }, manifest: \"m.csv\" }",
     ),
     // in a format
     (
         "report --ring 1 --gap 2 --format json m.csv",
-        "Report { options: ReportWords { ring: \"1\", gap: \"2\", profile: None, limit: None, waive: None, outline: None, format: Some(\"json\"), exit_zero: false }, manifest: \"m.csv\" }",
+        "Report { options: ReportWords { ring: \"1\", gap: \"2\", drill_off: None, drill_wide: None, profile: None, limit: None, waive: None, outline: None, format: Some(\"json\"), exit_zero: false }, manifest: \"m.csv\" }",
     ),
     (
         "report --ring 1 --gap 2 --max 2 --format json m.csv",
-        "Report { options: ReportWords { ring: \"1\", gap: \"2\", profile: None, limit: Some(\"2\"), waive: None, outline: None, format: Some(\"json\"), exit_zero: false }, manifest: \"m.csv\" }",
+        "Report { options: ReportWords { ring: \"1\", gap: \"2\", drill_off: None, drill_wide: None, profile: None, limit: Some(\"2\"), waive: None, outline: None, format: Some(\"json\"), exit_zero: false }, manifest: \"m.csv\" }",
     ),
     (
         "report --format=json m.csv --gap 2 --max=2 --ring 1",
-        "Report { options: ReportWords { ring: \"1\", gap: \"2\", profile: None, limit: Some(\"2\"), waive: None, outline: None, format: Some(\"json\"), exit_zero: false }, manifest: \"m.csv\" }",
+        "Report { options: ReportWords { ring: \"1\", gap: \"2\", drill_off: None, drill_wide: None, profile: None, limit: Some(\"2\"), waive: None, outline: None, format: Some(\"json\"), exit_zero: false }, manifest: \"m.csv\" }",
     ),
     (
         "report m.csv --gap 2 --ring 1 --format text",
-        "Report { options: ReportWords { ring: \"1\", gap: \"2\", profile: None, limit: None, waive: None, outline: None, format: Some(\"text\"), exit_zero: false }, manifest: \"m.csv\" }",
+        "Report { options: ReportWords { ring: \"1\", gap: \"2\", drill_off: None, drill_wide: None, profile: None, limit: None, waive: None, outline: None, format: Some(\"text\"), exit_zero: false }, manifest: \"m.csv\" }",
     ),
     // with waivers
     (
         "report --ring 1 --gap 2 --waive w.csv m.csv",
-        "Report { options: ReportWords { ring: \"1\", gap: \"2\", profile: None, limit: None, waive: Some(\"w.csv\"), outline: None, format: None, exit_zero: false }, manifest: \"m.csv\" }",
+        "Report { options: ReportWords { ring: \"1\", gap: \"2\", drill_off: None, drill_wide: None, profile: None, limit: None, waive: Some(\"w.csv\"), outline: None, format: None, exit_zero: false }, manifest: \"m.csv\" }",
     ),
     (
         "report --ring 1 --gap 2 --max 2 --waive w.csv --format json m.csv",
-        "Report { options: ReportWords { ring: \"1\", gap: \"2\", profile: None, limit: Some(\"2\"), waive: Some(\"w.csv\"), outline: None, format: Some(\"json\"), exit_zero: false }, manifest: \"m.csv\" }",
+        "Report { options: ReportWords { ring: \"1\", gap: \"2\", drill_off: None, drill_wide: None, profile: None, limit: Some(\"2\"), waive: Some(\"w.csv\"), outline: None, format: Some(\"json\"), exit_zero: false }, manifest: \"m.csv\" }",
     ),
     (
         "report m.csv --format=waivers --waive=w.csv --gap 2 --ring 1",
-        "Report { options: ReportWords { ring: \"1\", gap: \"2\", profile: None, limit: None, waive: Some(\"w.csv\"), outline: None, format: Some(\"waivers\"), exit_zero: false }, manifest: \"m.csv\" }",
+        "Report { options: ReportWords { ring: \"1\", gap: \"2\", drill_off: None, drill_wide: None, profile: None, limit: None, waive: Some(\"w.csv\"), outline: None, format: Some(\"waivers\"), exit_zero: false }, manifest: \"m.csv\" }",
     ),
     // with an outline
     (
         "report --outline edge.gbr --format html --ring 1 --gap 2 m.csv",
-        "Report { options: ReportWords { ring: \"1\", gap: \"2\", profile: None, limit: None, waive: None, outline: Some(\"edge.gbr\"), format: Some(\"html\"), exit_zero: false }, manifest: \"m.csv\" }",
+        "Report { options: ReportWords { ring: \"1\", gap: \"2\", drill_off: None, drill_wide: None, profile: None, limit: None, waive: None, outline: Some(\"edge.gbr\"), format: Some(\"html\"), exit_zero: false }, manifest: \"m.csv\" }",
     ),
     // in a profile
     (
         "report --profile wide --ring 1 --gap 2 m.csv",
-        "Report { options: ReportWords { ring: \"1\", gap: \"2\", profile: Some(\"wide\"), limit: None, waive: None, outline: None, format: None, exit_zero: false }, manifest: \"m.csv\" }",
+        "Report { options: ReportWords { ring: \"1\", gap: \"2\", drill_off: None, drill_wide: None, profile: Some(\"wide\"), limit: None, waive: None, outline: None, format: None, exit_zero: false }, manifest: \"m.csv\" }",
     ),
     (
         "report m.csv --gap=2 --ring=1 --max=2 --profile=strict",
-        "Report { options: ReportWords { ring: \"1\", gap: \"2\", profile: Some(\"strict\"), limit: Some(\"2\"), waive: None, outline: None, format: None, exit_zero: false }, manifest: \"m.csv\" }",
+        "Report { options: ReportWords { ring: \"1\", gap: \"2\", drill_off: None, drill_wide: None, profile: Some(\"strict\"), limit: Some(\"2\"), waive: None, outline: None, format: None, exit_zero: false }, manifest: \"m.csv\" }",
+    ),
+    // with what drilling leaves of the rules, or with one half of that
+    (
+        "report --ring 1 --gap 2 --drill-off 3 --drill-wide 4 m.csv",
+        "Report { options: ReportWords { ring: \"1\", gap: \"2\", drill_off: Some(\"3\"), drill_wide: Some(\"4\"), profile: None, limit: None, waive: None, outline: None, format: None, exit_zero: false }, manifest: \"m.csv\" }",
+    ),
+    (
+        "report m.csv --drill-wide=4 --gap 2 --ring 1",
+        "Report { options: ReportWords { ring: \"1\", gap: \"2\", drill_off: None, drill_wide: Some(\"4\"), profile: None, limit: None, waive: None, outline: None, format: None, exit_zero: false }, manifest: \"m.csv\" }",
     ),
     // with the status 0 for findings too
     (
         "report --exit-zero --ring 1 --gap 2 m.csv",
-        "Report { options: ReportWords { ring: \"1\", gap: \"2\", profile: None, limit: None, waive: None, outline: None, format: None, exit_zero: true }, manifest: \"m.csv\" }",
+        "Report { options: ReportWords { ring: \"1\", gap: \"2\", drill_off: None, drill_wide: None, profile: None, limit: None, waive: None, outline: None, format: None, exit_zero: true }, manifest: \"m.csv\" }",
     ),
     (
         "report m.csv --max=2 --exit-zero --gap 2 --profile wide --ring 1",
-        "Report { options: ReportWords { ring: \"1\", gap: \"2\", profile: Some(\"wide\"), limit: Some(\"2\"), waive: None, outline: None, format: None, exit_zero: true }, manifest: \"m.csv\" }",
+        "Report { options: ReportWords { ring: \"1\", gap: \"2\", drill_off: None, drill_wide: None, profile: Some(\"wide\"), limit: Some(\"2\"), waive: None, outline: None, format: None, exit_zero: true }, manifest: \"m.csv\" }",
     ),
     (
         "report --ring 1 --gap 2 --format json m.csv --exit-zero",
-        "Report { options: ReportWords { ring: \"1\", gap: \"2\", profile: None, limit: None, waive: None, outline: None, format: Some(\"json\"), exit_zero: true }, manifest: \"m.csv\" }",
+        "Report { options: ReportWords { ring: \"1\", gap: \"2\", drill_off: None, drill_wide: None, profile: None, limit: None, waive: None, outline: None, format: Some(\"json\"), exit_zero: true }, manifest: \"m.csv\" }",
     ),
 ];
 

@@ -27,7 +27,9 @@ use Rattle.ring_rules.specs.declared.finding.Drilled.{Drilled}
 use Rattle.report.specs.Causes.{flash_of, lack_of, ring_of}
 use Rattle.grid_units.specs.Holes.{GridRules}
 use Rattle.print_json.specs.Certificates.{certificate_value, digest_value, file_digest_value, predicate_value}
-use Rattle.print_json.specs.Packages.{profile_value}
+use Rattle.print_json.specs.Packages.{fewer_value, finding_values, profile_value}
+use Rattle.print_json.specs.Values.{drilling_member, drilling_value}
+use Rattle.print_text.specs.Drilling.{DrillBounds, gap_left, ring_left}
 use Rattle.print_json.specs.declared.refused.InputError.{InputError}
 use Rattle.print_json.specs.declared.refused.InputError.TheVariants as stops
 
@@ -133,27 +135,54 @@ gaps_within : (before : ℕ) (gaps : List GapLack) (accepted : List (Option (Bor
 gaps_within before gaps accepted =
     All-map (λ v. depth v ≤ 3) (λ (one : ℕ × GapLack). gap_value (before + (one.0 + 1)) one.1 (acceptance_at accepted one.0)) (enumerate_from 0 gaps) (λ k d l. gap_within _ _ _)
 
+-- the depth of what drilling leaves
+drilling_within : (rules : GridRules) (drilling : DrillBounds) → depth (drilling_value rules drilling) ≤ 1
+unfolding drilling_value
+drilling_within rules drilling =
+    let ring = there_within 0 picometres (λ n. omega arith) (ring_left rules drilling) in
+    let gap = there_within 0 picometres (λ n. omega arith) (gap_left rules drilling) in
+    omega (arith, ring, gap)
+
+-- the member for it nests no deeper than those after it
+drilled_within : (rules : GridRules) (drilling : Option DrillBounds) (d : ℕ) (rest : List (List ℕ × Json)) → members_depth (members_of rest) ≤ d → 1 ≤ d
+    → members_depth (members_of (drilling_member rules drilling ++ rest)) ≤ d
+drilled_within rules None d rest h one = h
+drilled_within rules (Some drilling) d rest h one = let value = drilling_within rules drilling in omega (arith, value, h, one)
+
+-- the members of a report after what drilling leaves
+abbrev after_drilling : Profile → Particulars → List (List ℕ) → List FileSum → BoardReport → List (Option (Bor (List ℕ))) → List (Option (Bor (List ℕ))) → List (List ℕ × Json)
+after_drilling profile about names files report of_rings of_gaps =
+    (codes "meets", meets_value report.meets) ∷ (codes "fewer_in_wide", fewer_value profile about.fewer)
+    ∷ (codes "files", array_of (file_values profile names files)) ∷ (codes "scales", array_of (map scale_value report.scales.items))
+    ∷ (codes "findings", array_of (finding_values report of_rings of_gaps)) ∷ []
+
+fewer_within : (profile : Profile) (fewer : ℕ) → depth (fewer_value profile fewer) ≤ 0
+fewer_within Strict fewer = omega arith
+fewer_within Wide fewer = omega arith
+
+after_within : (profile : Profile) (about : Particulars) (names : List (List ℕ)) (files : List FileSum) (report : BoardReport) (of_rings of_gaps : List (Option (Bor (List ℕ)))) → members_depth (members_of (after_drilling profile about names files report of_rings of_gaps)) ≤ 4
+after_within profile about names files report of_rings of_gaps =
+    let meets = meets_within report.meets in
+    let fewer = fewer_within profile about.fewer in
+    let named = files_within profile names files in
+    let scales = each_within scale_value 1 scale_within report.scales.items in
+    let rings = ring_values report.layers.items report.rings.items of_rings in
+    let before = length report.rings.items in
+    let found = items_within 3 (rings ++ gap_values before report.gaps.items of_gaps)
+    (All-append (λ v. depth v ≤ 3) rings (gap_values before report.gaps.items of_gaps) (rings_within report.layers.items report.rings.items of_rings) (gaps_within before report.gaps.items of_gaps)) in
+    omega (arith, meets, fewer, named, scales, found)
+
 -- the depth of a report
 pub report_within : (profile : Profile) (about : Particulars) (names : List (List ℕ)) (files : List FileSum) (report : BoardReport) (of_rings of_gaps : List (Option (Bor (List ℕ)))) → depth (report_value profile about names files report of_rings of_gaps) ≤ max_depth
 unfolding report_value rules_value
 report_within Strict about names files report of_rings of_gaps =
-    let meets = meets_within report.meets in
-    let named = files_within Strict names files in
-    let scales = each_within scale_value 1 scale_within report.scales.items in
-    let rings = ring_values report.layers.items report.rings.items of_rings in
-    let before = length report.rings.items in
-    let found = items_within 3 (rings ++ gap_values before report.gaps.items of_gaps)
-    (All-append (λ v. depth v ≤ 3) rings (gap_values before report.gaps.items of_gaps) (rings_within report.layers.items report.rings.items of_rings) (gaps_within before report.gaps.items of_gaps)) in
-    omega (arith, meets, named, scales, found)
+    let after = after_within Strict about names files report of_rings of_gaps in
+    let drilled = drilled_within report.rules about.drilling 4 (after_drilling Strict about names files report of_rings of_gaps) after (omega arith) in
+    omega (arith, drilled)
 report_within Wide about names files report of_rings of_gaps =
-    let meets = meets_within report.meets in
-    let named = files_within Wide names files in
-    let scales = each_within scale_value 1 scale_within report.scales.items in
-    let rings = ring_values report.layers.items report.rings.items of_rings in
-    let before = length report.rings.items in
-    let found = items_within 3 (rings ++ gap_values before report.gaps.items of_gaps)
-    (All-append (λ v. depth v ≤ 3) rings (gap_values before report.gaps.items of_gaps) (rings_within report.layers.items report.rings.items of_rings) (gaps_within before report.gaps.items of_gaps)) in
-    omega (arith, meets, named, scales, found)
+    let after = after_within Wide about names files report of_rings of_gaps in
+    let drilled = drilled_within report.rules about.drilling 4 (after_drilling Wide about names files report of_rings of_gaps) after (omega arith) in
+    omega (arith, drilled)
 
 -- the depth of a measure
 pub measure_within : (profile : Profile) (names : List (List ℕ)) (board : BoardView) (measure : Measure) → depth (measure_value profile names board measure) ≤ max_depth

@@ -19,7 +19,7 @@ use Rattle.report.specs.declared.RingLack.{RingLack}
 use Rattle.report.specs.declared.BoardReport.{BoardReport}
 use Rattle.report.specs.declared.Acceptances.{Acceptances}
 use Rattle.print_text.specs.declared.report_text.Particulars.{Particulars}
-use Rattle.print_json.specs.Values.{array_of, file_value, gap_value, or_null, least_gap_value, meets_value, object_of, ring_value, row_value, rules_value, scale_value, whole, word}
+use Rattle.print_json.specs.Values.{array_of, drilling_member, file_value, gap_value, or_null, least_gap_value, meets_value, object_of, ring_value, row_value, rules_value, scale_value, whole, word}
 use Rattle.print_json.specs.declared.refused.InputError.{InputError}
 use Rattle.print_json.specs.declared.refused.InputError.TheVariants as stops
 
@@ -67,14 +67,15 @@ result_word findings waived = if findings == 0 then codes "pass" else if waived 
 abbrev pub report_result : BoardReport → List (Option (Bor (List ℕ))) → List (Option (Bor (List ℕ))) → List ℕ
 report_result report rings gaps = result_word (length report.rings.items + length report.gaps.items) (waived_in report rings gaps)
 
--- a report in a profile with such reasons: the manifest, the program, the rules, the rules that are met, how many findings the wide profile does
--- not have, the files, the scales, and all findings, rings before gaps
+-- a report in a profile with such reasons: the manifest, the program, the rules, what drilling leaves of them, where it is said, the rules that are met, how many findings
+-- the wide profile does not have, the files, the scales, and all findings, rings before gaps
 unfoldable pub report_value : Profile → Particulars → List (List ℕ) → List FileSum → BoardReport → List (Option (Bor (List ℕ))) → List (Option (Bor (List ℕ))) → Json
 report_value profile about names files report rings gaps =
     object_of (opening_in profile (report_result report rings gaps) ++ ((codes "manifest", word about.manifest.now) ∷ (codes "program", word about.program.now)
-    ∷ (codes "rules", rules_value report.rules) ∷ (codes "meets", meets_value report.meets) ∷ (codes "fewer_in_wide", fewer_value profile about.fewer)
+    ∷ (codes "rules", rules_value report.rules) ∷ (drilling_member report.rules about.drilling
+    ++ ((codes "meets", meets_value report.meets) ∷ (codes "fewer_in_wide", fewer_value profile about.fewer)
     ∷ (codes "files", array_of (file_values profile names files)) ∷ (codes "scales", array_of (map scale_value report.scales.items))
-    ∷ (codes "findings", array_of (finding_values report rings gaps)) ∷ []))
+    ∷ (codes "findings", array_of (finding_values report rings gaps)) ∷ []))))
 
 -- a report with waivers, in the profile of its rules
 abbrev pub waived_report_value : Particulars → List (List ℕ) → List FileSum → BoardReport → Acceptances → Json

@@ -21,6 +21,7 @@ use Rattle.report.specs.declared.HolePlace.{HolePlace}
 use Rattle.report.specs.declared.Meets.{Meets}
 use Rattle.report.specs.declared.RingLine.{RingLine}
 use Rattle.report.specs.declared.UnitMistake.{UnitMistake}
+use Rattle.print_text.specs.Drilling.{DrillBounds, gap_left, ring_left}
 use Rattle.board.specs.Boards.{holes_before}
 use Rattle.board.specs.declared.FileSum.{FileSum}
 use Rattle.board.specs.declared.FileSum.TheVariants as sums
@@ -87,6 +88,18 @@ meets_value meets =
 -- the rules of a check: `{"ring_pm":100000000,"gap_pm":250000000}`
 unfoldable pub rules_value : GridRules → Json
 rules_value rules = object_of ((codes "ring_pm", picometres (pos rules.ring)) ∷ (codes "gap_pm", picometres (pos rules.gap)) ∷ [])
+
+-- what drilling leaves of the rules, and the bounds of drilling; null where no ring or no gap is left:
+-- `{"off_pm":50000000,"wide_pm":25000000,"ring_pm":75000000,"gap_pm":100000000}`
+unfoldable pub drilling_value : GridRules → DrillBounds → Json
+drilling_value rules drilling =
+    object_of ((codes "off_pm", picometres (pos drilling.off)) ∷ (codes "wide_pm", picometres (pos drilling.wide))
+    ∷ (codes "ring_pm", or_null picometres (ring_left rules drilling)) ∷ (codes "gap_pm", or_null picometres (gap_left rules drilling)) ∷ [])
+
+-- the member for it of a report that says it; none of another
+abbrev pub drilling_member : GridRules → Option DrillBounds → List (List ℕ × Json)
+drilling_member rules None = []
+drilling_member rules (Some drilling) = (codes "drilling", drilling_value rules drilling) ∷ []
 
 -- a point: `[142240000000,-97790000000]`
 unfoldable pub point_value : GridPoint → Json

@@ -4,12 +4,13 @@ ghost use Rattle.std.specs.Prelude.{◌≡◌, Some, map};
 ghost use Rattle.json.specs.Json.{document};
 ghost use Rattle.json.specs.Print.{print};
 ghost use Rattle.json.specs.Tree.{json_tokens};
-ghost use Rattle.print_json.specs.Inner.Texts.{about_rest, report_rest, more_members};
+ghost use Rattle.print_json.specs.Inner.Texts.{about_rest, drilling_rest, report_rest, more_members};
 ghost use Rattle.print_json.specs.Packages.{result_word, fewer_value, report_result, waived_report_value};
 ghost use Rattle.print_json.specs.Values.{json_text, members_of, or_null, whole};
 
 use crate::VERSION;
 use crate::arrays::{Array, Files, Findings, array_numbers};
+use crate::drilling::DrillingJson;
 use crate::printed::{Text, Value, write_line};
 use crate::strings::Escaped;
 use board::FileSum;
@@ -44,7 +45,7 @@ fn report_result(report: &BoardReport, accepted: &Acceptances) -> &'static str
 /// findings in it.
 #[derive(Clone, Copy)]
 pub struct ReportJson<'a> {
-    /// The manifest, the program, and how many findings the wide profile does not have.
+    /// The manifest, the program, how many findings the wide profile does not have, and how holes may be drilled.
     pub about: &'a Particulars<'a>,
     /// The names of the package's files.
     pub names: &'a [&'a str],
@@ -97,6 +98,31 @@ impl Display for ReportRest<'_> {
     }
 }
 
+/// The members of a report in a profile after its rules: first what drilling leaves of them, where the report says it.
+#[derive(Clone, Copy)]
+struct DrillingRest<'a> {
+    profile: Profile,
+    json: &'a ReportJson<'a>,
+}
+
+impl Display for DrillingRest<'_> {
+    ghost output = { λ rest. Some (more_members (members_of (drilling_rest rest.profile rest.json.now.about.now (map (λ name. name.now) rest.json.now.names.now) rest.json.now.files.now rest.json.now.report.now rest.json.now.accepted.now))) };
+
+    #[tactic(auto, unfolding(json::specs::Print::escape_byte))]
+    fn fmt<W: fmt::Write>(&self, f: &mut Formatter<W>) -> fmt::Result {
+        let (profile, json) = (self.profile, self.json);
+        let rest = ReportRest { profile, json };
+        match &json.about.drilling {
+            Some(drilling) => {
+                let rules = &json.report.rules;
+                let drilled = DrillingJson { rules, drilling };
+                write!(f, r#","drilling":{}{rest}"#, Text(&drilled))
+            }
+            None => write!(f, "{rest}"),
+        }
+    }
+}
+
 /// The members of a report in a profile from `manifest` on, with the closing bracket.
 #[derive(Clone, Copy)]
 struct AboutRest<'a> {
@@ -112,7 +138,7 @@ impl Display for AboutRest<'_> {
         let (profile, json) = (self.profile, self.json);
         let (manifest, program) = (Escaped(json.about.manifest), Escaped(json.about.program));
         let rules = Text(&json.report.rules);
-        let rest = ReportRest { profile, json };
+        let rest = DrillingRest { profile, json };
         write!(
             f,
             r#","manifest":"{manifest}","program":"{program}","rules":{rules}{rest}"#
@@ -141,6 +167,10 @@ impl Value for ReportJson<'_> {
         let profile = report.rules.profile();
         u128::from(VERSION).numbers();
         report.rules.numbers();
+        if let Some(drilling) = &self.about.drilling {
+            let rules = &report.rules;
+            DrillingJson { rules, drilling }.numbers();
+        }
         fewer_in_wide(profile, self.about.fewer).numbers();
         report.meets.numbers();
         array_numbers(&Files {

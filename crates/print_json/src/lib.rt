@@ -6,6 +6,7 @@
 mod arrays;
 mod certificate;
 mod certified;
+mod drilling;
 mod findings;
 mod found;
 mod measured;

@@ -1,4 +1,5 @@
 pub mod Causes
+pub mod Drilling
 pub mod Inner
 pub mod Texts
 pub mod MeasureLines

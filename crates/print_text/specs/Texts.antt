@@ -34,6 +34,7 @@ use Rattle.report.specs.declared.RingLack.{RingLack}
 use Rattle.report.specs.declared.BoardReport.{BoardReport}
 use Rattle.report.specs.declared.Acceptances.{Acceptances}
 use Rattle.print_text.specs.declared.kind.CauseKind.{CauseKind}
+use Rattle.print_text.specs.Drilling.{DrillBounds, drilling_text}
 use Rattle.print_text.specs.Causes.{all_kinds, flash_kind, hint, is_of_kind, kind_of, kind_words}
 use Rattle.print_text.specs.declared.kind.CauseKind.TheVariants as kinds
 use Rattle.grid_units.specs.Ascii as ascii
@@ -365,9 +366,12 @@ groups_text names rings layer =
 abbrev pub summary_text : List (List ℕ) → ℕ → List LayerHead → List RingLack → List ℕ
 summary_text names findings layers rings = if nat_lt 10 findings then flat_map (groups_text names rings) (enumerate_from 0 layers) else []
 
--- the first part of a report: the drill files whose coordinates seem to be off, those whose own comments contradict their role, and the rules
-unfoldable pub head_text : List (List ℕ) → BoardReport → List ℕ
-head_text names report = flat_map (scale_line names) report.scales.items ++ (flat_map (conflict_line names) report.conflicts.items ++ rules_line report.rules)
+-- the first part of a report: the drill files whose coordinates seem to be off, those whose own comments contradict their role, the rules, and what drilling leaves of
+-- them, where that is said
+unfoldable pub head_text : List (List ℕ) → BoardReport → Option DrillBounds → List ℕ
+head_text names report drilling =
+    flat_map (scale_line names) report.scales.items
+    ++ (flat_map (conflict_line names) report.conflicts.items ++ (rules_line report.rules ++ drilling_text report.rules drilling))
 
 -- the second part: the findings, and those of rings summed up
 abbrev pub findings_text : List (List ℕ) → BoardReport → Option ℕ → List (Option (Bor (List ℕ))) → List (Option (Bor (List ℕ))) → List ℕ
@@ -405,17 +409,17 @@ last_lines report fewer rings gaps idle =
     ++ (flat_map idle_line idle
     ++ (fewer_line (length report.rings.items + length report.gaps.items) fewer ++ last_line (length report.rings.items + length report.gaps.items) (waived_in report rings gaps)))
 
--- the text of a report, by how many findings the wide profile does not have, the reasons of its rings and gaps, and the numbers of the waivers
--- that match no finding
-abbrev pub full_text : List (List ℕ) → BoardReport → ℕ → Option ℕ → List (Option (Bor (List ℕ))) → List (Option (Bor (List ℕ))) → List ℕ → List ℕ
-full_text names report fewer limit rings gaps idle =
-    (head_text names report ++ findings_text names report limit rings gaps) ++ (causes_text report ++ last_lines report fewer rings gaps idle)
+-- the text of a report, by how many findings the wide profile does not have, how holes may be drilled, the reasons of its rings and gaps, and the
+-- numbers of the waivers that match no finding
+abbrev pub full_text : List (List ℕ) → BoardReport → ℕ → Option DrillBounds → Option ℕ → List (Option (Bor (List ℕ))) → List (Option (Bor (List ℕ))) → List ℕ → List ℕ
+full_text names report fewer drilling limit rings gaps idle =
+    (head_text names report drilling ++ findings_text names report limit rings gaps) ++ (causes_text report ++ last_lines report fewer rings gaps idle)
 
--- the text of a report with waivers; `names` are those of the files, `fewer` is how many findings the wide profile does not have, `limit` how many
--- are shown at most
-abbrev pub waived_report_text : List (List ℕ) → BoardReport → ℕ → Option ℕ → Acceptances → List ℕ
-waived_report_text names report fewer limit accepted = full_text names report fewer limit accepted.rings.now accepted.gaps.now accepted.idle.now
+-- the text of a report with waivers; `names` are those of the files, `fewer` is how many findings the wide profile does not have, `drilling` how
+-- holes may be drilled, where it is said what that leaves of the rules, `limit` how many findings are shown at most
+abbrev pub waived_report_text : List (List ℕ) → BoardReport → ℕ → Option DrillBounds → Option ℕ → Acceptances → List ℕ
+waived_report_text names report fewer drilling limit accepted = full_text names report fewer drilling limit accepted.rings.now accepted.gaps.now accepted.idle.now
 
--- the text of a report without waivers
+-- the text of a report without waivers that does not say what drilling leaves
 abbrev pub board_report_text : List (List ℕ) → BoardReport → ℕ → Option ℕ → List ℕ
-board_report_text names report fewer limit = full_text names report fewer limit [] [] []
+board_report_text names report fewer limit = full_text names report fewer None limit [] [] []

@@ -3,6 +3,7 @@
 //! All lengths are whole picometres (pm), and are printed in millimetres without zeros at the end.
 #![tactic(auto)]
 
+mod drilling;
 mod fewer;
 mod kind;
 mod lines;
@@ -15,6 +16,7 @@ mod summary;
 mod tallies;
 mod words;
 
+pub use drilling::Drilling;
 pub use fewer::FewerWords;
 pub use kind::words_for_cause;
 pub use lines::{RulesWords, WaivedWords};

@@ -6,6 +6,7 @@ ghost use Rattle.std.specs.List.{enumerate_from, flat_map};
 ghost use Rattle.print_text.specs.Inner.{AreRuns, IsRun, gap_lines, ring_lines};
 ghost use Rattle.print_text.specs.Texts.{causes_text, gaps_text, groups_text, head_text, last_lines, layer_text, summary_text, waived_report_text};
 
+use crate::drilling::{Drilling, DrillingText};
 use crate::fewer::{FewerLine, FewerWords};
 use crate::kind::CAUSE_KINDS;
 use crate::lines::{
@@ -197,16 +198,18 @@ impl Display for GapsText<'_> {
     }
 }
 
-/// The drill files whose coordinates seem to be off by a factor, those whose own comments contradict their role, and the rules.
+/// The drill files whose coordinates seem to be off by a factor, those whose own comments contradict their role, the rules, and what drilling
+/// leaves of them, where that is said.
 #[derive(Clone, Copy)]
 struct HeadText<'a> {
     /// The names of the files of the package.
     names: &'a [&'a str],
     report: &'a BoardReport,
+    drilling: Option<Drilling>,
 }
 
 impl Display for HeadText<'_> {
-    ghost output = { λ text. Some (head_text (map (λ name. name.now) text.names.now) text.report.now) };
+    ghost output = { λ text. Some (head_text (map (λ name. name.now) text.names.now) text.report.now text.drilling) };
 
     fn fmt<W: fmt::Write>(&self, f: &mut Formatter<W>) -> fmt::Result {
         let page = FileNames(self.names);
@@ -218,7 +221,12 @@ impl Display for HeadText<'_> {
             page: &page,
             lines: &self.report.conflicts,
         };
-        write!(f, "{scales}{conflicts}{}", RulesLine(&self.report.rules))
+        let drilled = DrillingText {
+            rules: &self.report.rules,
+            drilling: self.drilling,
+        };
+        let rules = RulesLine(&self.report.rules);
+        write!(f, "{scales}{conflicts}{rules}{drilled}")
     }
 }
 
@@ -313,6 +321,7 @@ pub struct ReportText<'a> {
     names: &'a [&'a str],
     report: &'a BoardReport,
     fewer: u128,
+    drilling: Option<Drilling>,
     limit: Option<usize>,
     accepted: &'a Acceptances<'a>,
     runs: Vec<Run>,
@@ -321,14 +330,15 @@ pub struct ReportText<'a> {
 impl<'a> Model for ReportText<'a> {
     ghost Value = { List ℕ };
 
-    ghost view = { λ text. waived_report_text (map (λ name. name.now) text.names.now) text.report.now text.fewer text.limit text.accepted.now };
+    ghost view = { λ text. waived_report_text (map (λ name. name.now) text.names.now) text.report.now text.fewer text.drilling text.limit text.accepted.now };
 
     ghost invariant = { λ text. (length text.runs.items ≡ length text.report.now.layers.items) × AreRuns text.report.now.rings.items (length text.report.now.rings.items) text.runs.items };
 }
 
 impl<'a> ReportText<'a> {
     /// The text of a report for people, with the reasons why findings are accepted. `names` are those of the package's files, `fewer`
-    /// is how many of the findings the wide profile does not have, `limit` how many are shown at most. The rings may be in any order: what is allocated is a place for each layer, with the
+    /// is how many of the findings the wide profile does not have, `drilling` how holes may be drilled, where it is said what that leaves of the rules,
+    /// `limit` how many findings are shown at most. The rings may be in any order: what is allocated is a place for each layer, with the
     /// range from its first to its last ring, and only these are visited for its lines. Printing allocates nothing.
     ///
     /// # Errors
@@ -339,16 +349,18 @@ impl<'a> ReportText<'a> {
         names: &'a [&'a str],
         report: &'a BoardReport,
         fewer: u128,
+        drilling: Option<Drilling>,
         limit: Option<usize>,
         accepted: &'a Acceptances<'a>,
     ) -> Result<ReportText<'a>, AllocError>
-        ensures { IfOk result (λ text. text ≡ waived_report_text (map (λ name. name.now) names.now) report.now fewer limit accepted.now) }
+        ensures { IfOk result (λ text. text ≡ waived_report_text (map (λ name. name.now) names.now) report.now fewer drilling limit accepted.now) }
     {
         let runs = runs_of(alloc, report.layers.len(), &report.rings)?;
         Ok(ReportText {
             names,
             report,
             fewer,
+            drilling,
             limit,
             accepted,
             runs,
@@ -378,6 +390,7 @@ impl Display for ReportText<'_> {
         let head = HeadText {
             names: self.names,
             report: self.report,
+            drilling: self.drilling,
         };
         let last = LastLines {
             report: self.report,
@@ -390,7 +403,8 @@ impl Display for ReportText<'_> {
     }
 }
 
-/// What a report says beside its findings: on which manifest, by which program, and how many findings the wide profile does not have.
+/// What a report says beside its findings: on which manifest, by which program, how many findings the wide profile does not have, and how holes
+/// may be drilled.
 #[derive(Clone, Copy)]
 pub struct Particulars<'a> {
     /// The name of the manifest, as the program was given it.
@@ -399,4 +413,6 @@ pub struct Particulars<'a> {
     pub program: &'a str,
     /// How many of the findings of a report in the strict profile disappear in the wide one.
     pub fewer: u128,
+    /// How far off and how much wider holes may be drilled, where the report says what that leaves of the rules.
+    pub drilling: Option<Drilling>,
 }

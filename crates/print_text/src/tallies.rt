@@ -1,6 +1,6 @@
 //! Counts of findings and of those that are shown or waived, and the smallest ring and gap.
 
-ghost use Rattle.std.specs.Prelude.{◌≡◌, ◌≤◌, ◌==◌, ◌&&◌, ℕ, List, Option, if◌then◌else◌, length, map, not};
+ghost use Rattle.std.specs.Prelude.{◌≡◌, ◌≤◌, ◌==◌, ◌&&◌, ℕ, List, None, Option, if◌then◌else◌, length, map, not};
 ghost use Rattle.std.specs.List.{count_by, enumerate_from, filter, filter_map};
 ghost use Rattle.print_text.specs.Causes.{is_of_kind};
 ghost use Rattle.print_text.specs.Inner.{IsRun, smaller};
@@ -144,7 +144,7 @@ pub(crate) fn waived_on(accepted: &[Option<&str>], run: Run, rings: &[RingLack])
 
 /// No reasons: the text of a report with these is that of a report without waivers.
 pub fn no_acceptances() -> Acceptances<'static>
-    ensures { (names : List (List ℕ)) (report : TheBoardReport) (fewer : ℕ) (limit : Option ℕ) → waived_report_text names report fewer limit result ≡ board_report_text names report fewer limit }
+    ensures { (names : List (List ℕ)) (report : TheBoardReport) (fewer : ℕ) (limit : Option ℕ) → waived_report_text names report fewer None limit result ≡ board_report_text names report fewer limit }
 {
     Acceptances {
         rings: &[],

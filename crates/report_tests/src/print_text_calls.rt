@@ -28,7 +28,7 @@ fn text_of(
     limit: Option<usize>,
     accepted: &Acceptances,
 ) -> Result<String, AllocError> {
-    let text = ReportText::new(alloc, names, report, 0, limit, accepted)?;
+    let text = ReportText::new(alloc, names, report, 0, None, limit, accepted)?;
     format!(in alloc; "{text}")
 }
 
@@ -477,7 +477,7 @@ const MEETS: [MetRow; 7] = [
 
 /// Whether this stands in the text of a report.
 fn has_line(alloc: Global, report: &BoardReport, line: &str) -> bool {
-    match ReportText::new(alloc, &HOLED, report, 0, None, &no_acceptances()) {
+    match ReportText::new(alloc, &HOLED, report, 0, None, None, &no_acceptances()) {
         Ok(text) => match format!(in alloc; "{text}") {
             Ok(written) => written.as_str().contains(line),
             Err(_) => false,
@@ -533,7 +533,7 @@ fn is_text_cut_at(text: &ReportText, fails_at: usize) -> bool {
 
 /// Whether the text of a report is so.
 fn is_cut_at(alloc: Global, report: &BoardReport, fails_at: usize) -> bool {
-    match ReportText::new(alloc, &HOLED, report, 1, None, &ALL) {
+    match ReportText::new(alloc, &HOLED, report, 1, None, None, &ALL) {
         Ok(text) => is_text_cut_at(&text, fails_at),
         Err(_) => false,
     }
@@ -563,7 +563,7 @@ const FEWER: [(u128, &str); 3] = [
 
 /// Whether the text of a report ends so where the wide profile does not have this many of its findings.
 fn ends_with(alloc: Global, report: &BoardReport, fewer: u128, end: &str) -> bool {
-    match ReportText::new(alloc, &HOLED, report, fewer, None, &no_acceptances()) {
+    match ReportText::new(alloc, &HOLED, report, fewer, None, None, &no_acceptances()) {
         Ok(text) => is_ended_so(alloc, &text, end),
         Err(_) => false,
     }

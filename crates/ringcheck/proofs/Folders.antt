@@ -1,4 +1,5 @@
 -- What a status says of a request, of a loader whose names are taken from a folder, and where no folder could be entered.
+use Rattle.print_text.specs.Drilling.{DrillBounds}
 use Rattle.ringcheck.proofs.Common.{Bool, true, false, ℕ, List, [], ◌∷◌, Option, Some, None, Result, Ok, Err, inl, inr, refl, GridRules, Reason, Profile, AllByRecursion, Entry, Status, Relation, Written, parse_check, parse_draw, parse_measure, profile_of, Checks, IsParsedCheckStatus, IsDrawStatus, IsParsedDrawStatus, PrintsPicture, IsParsedMeasureStatus, PrintsMeasure, measure_style, IsParsedReportStatus, IsWaivingReportStatus, IsExitOf, IsRequestStatus, word_bytes, ReportFormat}
 use Rattle.command_line.specs.declared.Request.{Request}
 use Rattle.command_line.specs.declared.Request.TheVariants.{Check, Certify, Verify, Measure, Report, Draw, Show, Rewrite, Manifest, Explain}
@@ -74,17 +75,17 @@ module _ (later has : List ℕ → List ℕ → Type 0) (to : (n b : List ℕ) �
       (λ parts. says_along later has to profile name (λ text entries. PrintsPicture rules parts before.0 after.0) style.Line before after) outline before after s h
   draw_along name (Err why) sentence outline s h = h
 
-  waiving_along : (name : List ℕ) (rules : GridRules) (limit : Option ℕ) (form : ReportFormat) (waive outline : Option (List ℕ)) (s : Status)
-      → IsWaivingReportStatus later name rules limit form waive outline before after s → IsWaivingReportStatus has name rules limit form waive outline before after s
-  waiving_along name rules limit form None outline s h = report_outlined_along later has to name rules limit form None outline before after s h
-  waiving_along name rules limit form (Some file) outline s (inl (is, (why, (text, had, refused), printed))) = inl (is, (why, (text, to file text had, refused), printed))
-  waiving_along name rules limit form (Some file) outline s (inr (inl is)) = inr (inl is)
-  waiving_along name rules limit form (Some file) outline s (inr (inr (waivers, (text, (had, short, reads)), h))) =
-      inr (inr (waivers, (text, (to file text had, short, reads)), report_outlined_along later has to name rules limit form (Some waivers) outline before after s h))
+  waiving_along : (name : List ℕ) (rules : GridRules) (drilling : Option DrillBounds) (limit : Option ℕ) (form : ReportFormat) (waive outline : Option (List ℕ)) (s : Status)
+      → IsWaivingReportStatus later name rules drilling limit form waive outline before after s → IsWaivingReportStatus has name rules drilling limit form waive outline before after s
+  waiving_along name rules drilling limit form None outline s h = report_outlined_along later has to name rules drilling limit form None outline before after s h
+  waiving_along name rules drilling limit form (Some file) outline s (inl (is, (why, (text, had, refused), printed))) = inl (is, (why, (text, to file text had, refused), printed))
+  waiving_along name rules drilling limit form (Some file) outline s (inr (inl is)) = inr (inl is)
+  waiving_along name rules drilling limit form (Some file) outline s (inr (inr (waivers, (text, (had, short, reads)), h))) =
+      inr (inr (waivers, (text, (to file text had, short, reads)), report_outlined_along later has to name rules drilling limit form (Some waivers) outline before after s h))
 
-  report_along : (name : List ℕ) (parsed : Result (GridRules × Option ℕ × ReportFormat) Reason) (below : Bool) (sentence : List ℕ) (waive outline : Option (List ℕ)) (s : Status)
+  report_along : (name : List ℕ) (parsed : Result (GridRules × Option DrillBounds × Option ℕ × ReportFormat) Reason) (below : Bool) (sentence : List ℕ) (waive outline : Option (List ℕ)) (s : Status)
       → IsParsedReportStatus later name parsed below sentence waive outline before after s → IsParsedReportStatus has name parsed below sentence waive outline before after s
-  report_along name (Ok (rules, limit, form)) below sentence waive outline s h = waiving_along name rules limit form waive outline s h
+  report_along name (Ok (rules, drilling, limit, form)) below sentence waive outline s h = waiving_along name rules drilling limit form waive outline s h
   report_along name (Err why) below sentence waive outline s h = h
 
   kind_along : (what : FileJob) (kind : Option Kind) (name : List ℕ) (from to_text : Option (List ℕ)) (s : Status) → IsKindStatus what kind later name from to_text s → IsKindStatus what kind has name from to_text s
@@ -173,10 +174,10 @@ module _ (has : Relation) (before after : Written) where
   draw_device name (Ok (profile, rules)) sentence (Some file) = inr (inl refl)
   draw_device name (Err why) sentence outline = inr refl
 
-  report_device : (name : List ℕ) (parsed : Result (GridRules × Option ℕ × ReportFormat) Reason) (below : Bool) (sentence : List ℕ) (waive outline : Option (List ℕ)) → IsParsedReportStatus has name parsed below sentence waive outline before after status.Device
-  report_device name (Ok (rules, limit, form)) below sentence (Some file) outline = inr (inl refl)
-  report_device name (Ok (rules, limit, form)) below sentence None (Some file) = inr (inl refl)
-  report_device name (Ok (rules, limit, form)) below sentence None None = tt
+  report_device : (name : List ℕ) (parsed : Result (GridRules × Option DrillBounds × Option ℕ × ReportFormat) Reason) (below : Bool) (sentence : List ℕ) (waive outline : Option (List ℕ)) → IsParsedReportStatus has name parsed below sentence waive outline before after status.Device
+  report_device name (Ok (rules, drilling, limit, form)) below sentence (Some file) outline = inr (inl refl)
+  report_device name (Ok (rules, drilling, limit, form)) below sentence None (Some file) = inr (inl refl)
+  report_device name (Ok (rules, drilling, limit, form)) below sentence None None = tt
   report_device name (Err why) below sentence waive outline = inr refl
 
   exit_device : (zero : Bool) (Says : Status → Type 0) → Says status.Device → IsExitOf zero Says status.Device

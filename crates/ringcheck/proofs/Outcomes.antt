@@ -1,4 +1,5 @@
 -- What follows for a package from what is said of its manifest and of its files.
+use Rattle.print_text.specs.Drilling.{DrillBounds}
 use Rattle.ringcheck.proofs.Common.{◌≡◌, ◌<◌, ◌≤◌, ◌∷◌, [], inl, inr, ℕ, zero, suc, Bool, true, false, List, Some, Result, Ok, Err, IfOk, length, map, take, arith, refl, subst, sym, ◌==◌, slice_get, eqb-true, false≢true, nil_from_length, IfOk-weaker, Profile, Entry, manifest_in, FileView, Status, HasCause, HasRisen, file_limit, within, IsSilent, Written, Halt, AfterHalt, AfterNoTable, Halts, HaltsTable, OfFiles, refusal, Refusal, PackageFault, PrintsRefusal, of_archive, of_role, HasFiles, IsTable, HoldsForPackage, RefusedFile, IsPackageRefusal, RefusedAmong, SaysManifest, bad_file, long_file, refused_file, refused_manifest, setting_in, sources, status_of, None, ReportFormat, IsOutlinedStatus, IsReportStatus, Reports, report_style, GridRules, Option}
 use Rattle.std.specs.Prelude.{◌&&◌}
 use Rattle.grid_units.specs.declared.fault.Fault.{Fault}
@@ -157,8 +158,8 @@ outlined_along later has to Says' Says more (Some file) before after s (inr (inl
 outlined_along later has to Says' Says more (Some file) before after s (inr (inr (outline, (text, (had, short), reads), h))) = inr (inr (outline, (text, (to file text had, short), reads), more outline s h))
 
 -- what a status says of a report for which an outline may be named
-pub report_outlined_along : (later has : List ℕ → List ℕ → Type 0) → ((n b : List ℕ) → later n b → has n b) → (name : List ℕ) (rules : GridRules) (limit : Option ℕ) (form : ReportFormat) (waivers : Option (List Waiver)) (outline : Option (List ℕ)) (before after : Written) (s : Status)
-    → IsOutlinedStatus later outline (λ parts. IsReportStatus later name rules limit form waivers parts before after) before after s → IsOutlinedStatus has outline (λ parts. IsReportStatus has name rules limit form waivers parts before after) before after s
-report_outlined_along later has to name rules limit form waivers outline before after =
-    outlined_along later has to (λ parts. IsReportStatus later name rules limit form waivers parts before after) (λ parts. IsReportStatus has name rules limit form waivers parts before after)
-    (λ parts. says_along later has to rules.profile name (λ text entries. Reports name rules limit form waivers parts before.0 after.0) (report_style form) before after) outline before after
+pub report_outlined_along : (later has : List ℕ → List ℕ → Type 0) → ((n b : List ℕ) → later n b → has n b) → (name : List ℕ) (rules : GridRules) (drilling : Option DrillBounds) (limit : Option ℕ) (form : ReportFormat) (waivers : Option (List Waiver)) (outline : Option (List ℕ)) (before after : Written) (s : Status)
+    → IsOutlinedStatus later outline (λ parts. IsReportStatus later name rules drilling limit form waivers parts before after) before after s → IsOutlinedStatus has outline (λ parts. IsReportStatus has name rules drilling limit form waivers parts before after) before after s
+report_outlined_along later has to name rules drilling limit form waivers outline before after =
+    outlined_along later has to (λ parts. IsReportStatus later name rules drilling limit form waivers parts before after) (λ parts. IsReportStatus has name rules drilling limit form waivers parts before after)
+    (λ parts. says_along later has to rules.profile name (λ text entries. Reports name rules drilling limit form waivers parts before.0 after.0) (report_style form) before after) outline before after

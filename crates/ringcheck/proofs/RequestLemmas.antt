@@ -31,12 +31,12 @@ verify_status has c (Verify certificate) failed_before failed_after before after
 verify_status has c request failed_before failed_after before after s h says = absurd h
 
 -- of a report
-pub report_status : (has : Relation) (z : Bool) (r g : List ℕ) (p n v l o : Option (List ℕ)) (m : List ℕ) (request : Request) (failed_before failed_after : ℕ) (before after : Written) (s : Status)
-    → IsReport z r g p n v l o m request → IsRequestStatus request has failed_before failed_after before after s
-    → IsExitOf z (IsParsedReportStatus has m (parse_report p r g n v l o) (is_for_people o) (report_sentence p r g n (is_some l) o) v l before after) s
-report_status has z r g p n v l o m (Report options manifest) failed_before failed_after before after s (ez, er, eg, ep, en, ev, el, eo, em) says =
-    rw (sym ez, sym er, sym eg, sym ep, sym en, sym ev, sym el, sym eo, sym em) says
-report_status has z r g p n v l o m request failed_before failed_after before after s h says = absurd h
+pub report_status : (has : Relation) (z : Bool) (r g : List ℕ) (t a p n v l o : Option (List ℕ)) (m : List ℕ) (request : Request) (failed_before failed_after : ℕ) (before after : Written) (s : Status)
+    → IsReport z r g t a p n v l o m request → IsRequestStatus request has failed_before failed_after before after s
+    → IsExitOf z (IsParsedReportStatus has m (parse_report p r g t a n v l o) (is_for_people o) (report_sentence p r g t a n (is_some l) o) v l before after) s
+report_status has z r g t a p n v l o m (Report options manifest) failed_before failed_after before after s (ez, er, eg, et, ea, ep, en, ev, el, eo, em) says =
+    rw (sym ez, sym er, sym eg, sym et, sym ea, sym ep, sym en, sym ev, sym el, sym eo, sym em) says
+report_status has z r g t a p n v l o m request failed_before failed_after before after s h says = absurd h
 
 -- of a picture
 pub draw_status : (has : Relation) (o : Option (List ℕ × List ℕ)) (p l : Option (List ℕ)) (m : List ℕ) (request : Request) (failed_before failed_after : ℕ) (before after : Written) (s : Status)

@@ -1,4 +1,5 @@
 -- What a check or a report that passes, or a measure, says of three files at hand.
+use Rattle.print_text.specs.Drilling.{DrillBounds}
 use Rattle.ringcheck.proofs.Common.{◌≡◌, ℕ, zero, suc, Bool, true, false, List, [], ◌∷◌, inl, inr, Option, None, Result, Ok, Err, length, codes, ap, sym, subst, refl, arith, Contains, GridRules, Reason, Profile, Entry, manifest_in, FileView, Status, ReportFormat, IsParsedMeasureStatus, file_limit, within, Written, IsParsedReportStatus, HasFiles, HoldsForPackage, IsParsedCheckStatus, sources}
 use Rattle.package_check.specs.Measures.{PackagePasses}
 use Rattle.report.specs.declared.Measure.{Measure}
@@ -54,7 +55,7 @@ met_of_three sentence m l d (Err why) before after s says is = absurd (usage_nev
 met_of_three sentence m l d (Ok order) before after s says is = let (entries, listed, files, loaded, holds) = held m l d order.profile _ (subst (IsParsedMeasureStatus (has_three_files m l d) (codes "m.csv") (Ok order) sentence before after) is says).0 in (order, refl, entries, listed, files, loaded, holds.measure, holds.met)
 
 -- the files that the manifest names are sound, where a report has no finding
-pub report_of_three : (below : Bool) (sentence m l d : List ℕ) (r : Result (GridRules × Option ℕ × ReportFormat) Reason) (before after : Written) (s : Status) → IsParsedReportStatus (has_three_files m l d) (codes "m.csv") r below sentence None None before after s → s ≡ status.Pass
-    → (unparsed : GridRules × Option ℕ × ReportFormat) × (r ≡ Ok unparsed) × (entries : List Entry) × (manifest_in unparsed.0.profile m ≡ Ok entries) × (files : List (List ℕ)) × HasFiles (has_three_files m l d) entries files × IsSound (sources unparsed.0.profile entries files) unparsed.0
+pub report_of_three : (below : Bool) (sentence m l d : List ℕ) (r : Result (GridRules × Option DrillBounds × Option ℕ × ReportFormat) Reason) (before after : Written) (s : Status) → IsParsedReportStatus (has_three_files m l d) (codes "m.csv") r below sentence None None before after s → s ≡ status.Pass
+    → (unparsed : GridRules × Option DrillBounds × Option ℕ × ReportFormat) × (r ≡ Ok unparsed) × (entries : List Entry) × (manifest_in unparsed.0.profile m ≡ Ok entries) × (files : List (List ℕ)) × HasFiles (has_three_files m l d) entries files × IsSound (sources unparsed.0.profile entries files) unparsed.0
 report_of_three below sentence m l d (Err why) before after s says is = absurd (usage_never_passes below why sentence before after s says is)
-report_of_three below sentence m l d (Ok (rules, limit, form)) before after s says is = let (entries, listed, files, loaded, holds) = held m l d rules.profile _ (subst (IsParsedReportStatus (has_three_files m l d) (codes "m.csv") (Ok (rules, limit, form)) below sentence None None before after) is says).0 in ((rules, limit, form), refl, entries, listed, files, loaded, holds.sound (sym holds.judged.0))
+report_of_three below sentence m l d (Ok (rules, drilling, limit, form)) before after s says is = let (entries, listed, files, loaded, holds) = held m l d rules.profile _ (subst (IsParsedReportStatus (has_three_files m l d) (codes "m.csv") (Ok (rules, drilling, limit, form)) below sentence None None before after) is says).0 in ((rules, drilling, limit, form), refl, entries, listed, files, loaded, holds.sound (sym holds.judged.0))

@@ -1,4 +1,4 @@
--- The rules, the profile, the limit of findings and the format that words of the command line name (docs/FORMATS.md, The program).
+-- The rules, the profile, the drilling, the limit of findings and the format that words of the command line name (docs/FORMATS.md, The program).
 use Rattle.std.specs.Prelude.{ℕ, ℤ, pos, Bool, ◌&&◌, not, is_some, List, Option, Some, None, Result, Ok, Err, length, codes, option_map, nat_le, unsigned_abs, int_le, if◌then◌else◌}
 use Rattle.std.specs.Borrow.{Bor}
 use Rattle.std.specs.Str.{bytes_eq}
@@ -11,6 +11,7 @@ use Rattle.grid_units.specs.Points.{max_coordinate}
 use Rattle.grid_units.specs.Holes.{GridRules}
 use Rattle.grid_units.specs.Numbers.{parse_decimal, is_digits, picometres, value, within_limit}
 use Rattle.grid_units.specs.Results.{◌>>=◌}
+use Rattle.print_text.specs.Drilling.{DrillBounds, drilling_of}
 use Rattle.ringcheck.specs.declared.parsed_words.MeasureFormat.{MeasureFormat}
 use Rattle.ringcheck.specs.declared.parsed_words.MeasureFormat.TheVariants as measures
 use Rattle.ringcheck.specs.declared.parsed_words.MeasureOrder.{MeasureOrder}
@@ -90,11 +91,20 @@ measured_in (Some profile) form = parse_format form >>= λ f. Ok (record { profi
 abbrev pub parse_measure : Option (List ℕ) → Option (List ℕ) → Result MeasureOrder Reason
 parse_measure profile form = measured_in (profile_of profile) form
 
--- the rules in a profile, the limit of findings and the format of a report, or the first refusal in this order, of which that of the profile is
--- the first; `waive` is the file of waivers and `outline` that of an outline, if there is one
-unfoldable pub parse_report : Option (List ℕ) → List ℕ → List ℕ → Option (List ℕ) → Option (List ℕ) → Option (List ℕ) → Option (List ℕ) → Result (GridRules × Option ℕ × ReportFormat) Reason
-parse_report profile ring gap limit waive outline form =
-    parse_check profile ring gap >>= λ r. (parse_limit limit >>= λ n. (parse_report_format (is_some waive) (is_some outline) form >>= λ f. Ok (r, n, f)))
+-- how holes may be drilled, by two lengths in millimetres, or by neither; one of these alone is BadRule
+unfoldable pub parse_drilling : Option (List ℕ) → Option (List ℕ) → Result (Option DrillBounds) Reason
+parse_drilling None None = Ok None
+parse_drilling (Some off) (Some wide) = parse_length off >>= λ t. (parse_length wide >>= λ a. (drilling_of t a >>= λ drilling. Ok (Some drilling)))
+parse_drilling (Some off) None = Err BadRule
+parse_drilling None (Some wide) = Err BadRule
+
+-- the rules in a profile, the drilling, the limit of findings and the format of a report, or the first refusal in this order, of which that of the
+-- profile is the first; `waive` is the file of waivers and `outline` that of an outline, if there is one
+unfoldable pub parse_report : Option (List ℕ) → List ℕ → List ℕ → Option (List ℕ) → Option (List ℕ) → Option (List ℕ) → Option (List ℕ) → Option (List ℕ) → Option (List ℕ)
+    → Result (GridRules × Option DrillBounds × Option ℕ × ReportFormat) Reason
+parse_report profile ring gap off wide limit waive outline form =
+    parse_check profile ring gap >>= λ r. (parse_drilling off wide >>= λ d. (parse_limit limit >>= λ n.
+    (parse_report_format (is_some waive) (is_some outline) form >>= λ f. Ok (r, d, n, f))))
 
 -- the rules of a picture in a profile: those of a ring and a gap, or none; one of these alone is BadRule
 unfoldable pub drawn_under : Profile → Option (List ℕ) → Option (List ℕ) → Result (Option GridRules) Reason

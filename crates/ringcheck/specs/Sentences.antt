@@ -14,29 +14,34 @@ use Rattle.ringcheck.specs.declared.refusals.RefusalStyle.TheVariants as style
 use Rattle.ringcheck.specs.declared.refusals.UnreadWords.{UnreadWords}
 use Rattle.ringcheck.specs.declared.refusals.Subject.{Subject}
 use Rattle.ringcheck.specs.declared.refusals.Subject.TheVariants as subject
-use Rattle.ringcheck.specs.ParsedWords.{parse_length, parse_limit, parse_rules, profile_of, word_bytes}
+use Rattle.ringcheck.specs.ParsedWords.{parse_drilling, parse_length, parse_limit, parse_rules, profile_of, word_bytes}
 
 -- ---- words
 
--- what a rule is, where a word is none for this reason
-abbrev pub rule_words : Reason → List ℕ
-rule_words reasons.TooFine = codes "a rule has at most eight decimals, e.g. 0.125"
-rule_words reasons.TooFar = codes "a rule is at most 10000 mm"
-rule_words other = codes "give millimetres without a unit, e.g. 0.127 for 5 mil"
+-- what a length is, where a word is none for this reason
+abbrev pub length_words : Reason → List ℕ
+length_words reasons.TooFine = codes "a length has at most eight decimals, e.g. 0.125"
+length_words reasons.TooFar = codes "a length is at most 10000 mm"
+length_words other = codes "give millimetres without a unit, e.g. 0.127 for 5 mil"
 
 -- what is said of the value of an option that is no length: `--ring 5mil: give millimetres without a unit, e.g. 0.127 for 5 mil`
 abbrev pub length_sentence : List ℕ → List ℕ → Reason → List ℕ
-length_sentence option word why = option ++ (codes " " ++ (word ++ (codes ": " ++ rule_words why)))
+length_sentence option word why = option ++ (codes " " ++ (word ++ (codes ": " ++ length_words why)))
 
 -- what is said of a length that an option names, or the other sentence where it is one
 abbrev pub sentence_of_length : List ℕ → List ℕ → Result ℤ Reason → List ℕ → List ℕ
 sentence_of_length option word (Ok length) other = other
 sentence_of_length option word (Err why) other = length_sentence option word why
 
+-- what is said of two options that are refused, each with the word for its length: of the first, of the second, or what both must be
+abbrev pub lengths_sentence : List ℕ → List ℕ → List ℕ → List ℕ → List ℕ → List ℕ
+lengths_sentence first one second other both =
+    sentence_of_length first one (parse_length one) (sentence_of_length second other (parse_length other)
+    (first ++ (codes " " ++ (one ++ (codes " " ++ (second ++ (codes " " ++ (other ++ (codes ": " ++ both)))))))))
+
 -- what is said of words that name no rules: of the ring, of the gap, or of both, in this order
 abbrev pub rules_sentence : List ℕ → List ℕ → List ℕ
-rules_sentence ring gap =
-    sentence_of_length (codes "--ring") ring (parse_length ring) (sentence_of_length (codes "--gap") gap (parse_length gap) (codes "--ring " ++ (ring ++ (codes " --gap " ++ (gap ++ codes ": the ring is 0 or more, and the gap is more than 0")))))
+rules_sentence ring gap = lengths_sentence (codes "--ring") ring (codes "--gap") gap (codes "the ring is 0 or more, and the gap is more than 0")
 
 -- what is said of a word that is no number of findings
 abbrev pub count_sentence : Option (List ℕ) → List ℕ
@@ -59,11 +64,17 @@ abbrev pub profile_sentence : Option (List ℕ) → List ℕ
 profile_sentence None = codes "--profile must be strict or wide"
 profile_sentence (Some word) = codes "--profile must be strict or wide, not " ++ word
 
+-- what is said of words that name no drilling: of a length alone, that it needs the other; else of the first, of the second, or of both, in this order
+abbrev pub drilling_sentence : Option (List ℕ) → Option (List ℕ) → List ℕ
+drilling_sentence (Some off) (Some wide) = lengths_sentence (codes "--drill-off") off (codes "--drill-wide") wide (codes "both are 0 or more")
+drilling_sentence off wide = codes "--drill-off and --drill-wide are given together"
+
 -- what is said of the words of a report that are refused, by the first of them that is; `outlined` says whether an outline is given
-abbrev pub report_sentence : Option (List ℕ) → List ℕ → List ℕ → Option (List ℕ) → Bool → Option (List ℕ) → List ℕ
-report_sentence profile ring gap limit outlined form =
+abbrev pub report_sentence : Option (List ℕ) → List ℕ → List ℕ → Option (List ℕ) → Option (List ℕ) → Option (List ℕ) → Bool → Option (List ℕ) → List ℕ
+report_sentence profile ring gap off wide limit outlined form =
     if not (is_some (profile_of profile)) then profile_sentence profile
     else if not (is_ok (parse_rules ring gap)) then rules_sentence ring gap
+    else if not (is_ok (parse_drilling off wide)) then drilling_sentence off wide
     else if not (is_ok (parse_limit limit)) then count_sentence limit
     else if outlined then codes "--outline works only with --format html and with draw" else report_format_sentence form
 

@@ -8,6 +8,7 @@ use crate::parsed_words::{MeasureFormat, MeasureOrder, ReportFormat};
 use crate::refusals::RefusalStyle;
 use grid_units::{Profile, Rules};
 use package_check::Keep;
+use print_text::Drilling;
 use waivers::Waiver;
 
 /// What a report is asked for.
@@ -15,6 +16,8 @@ use waivers::Waiver;
 pub(crate) struct Order {
     /// The ring and the gap to check, in pm.
     pub(crate) rules: Rules,
+    /// How holes may be drilled, where the report is asked what that leaves of the rules.
+    pub(crate) drilling: Option<Drilling>,
     /// The most findings that a text shows; it shows all of them where there is no limit.
     pub(crate) limit: Option<usize>,
     pub(crate) format: ReportFormat,

@@ -344,18 +344,20 @@ pub(crate) fn report<L: Loader, W: Write, E: Write>(
     loader: &mut L,
     to: &mut Streams<W, E>,
 ) -> Result<Status, Failure>
-    ensures says { IfOk result (IsParsedReportStatus (L.has loader.old) name.now (named.parse_report (word_bytes unparsed.now.profile) unparsed.now.ring.now unparsed.now.gap.now (word_bytes unparsed.now.limit) (word_bytes unparsed.now.waive) (word_bytes unparsed.now.outline) (word_bytes unparsed.now.format)) (is_for_people (word_bytes unparsed.now.format)) (report_sentence (word_bytes unparsed.now.profile) unparsed.now.ring.now unparsed.now.gap.now (word_bytes unparsed.now.limit) (is_some (word_bytes unparsed.now.outline)) (word_bytes unparsed.now.format)) (word_bytes unparsed.now.waive) (word_bytes unparsed.now.outline) (texts W.contents E.contents to.old) (texts W.contents E.contents to.new)) }
+    ensures says { IfOk result (IsParsedReportStatus (L.has loader.old) name.now (named.parse_report (word_bytes unparsed.now.profile) unparsed.now.ring.now unparsed.now.gap.now (word_bytes unparsed.now.drill_off) (word_bytes unparsed.now.drill_wide) (word_bytes unparsed.now.limit) (word_bytes unparsed.now.waive) (word_bytes unparsed.now.outline) (word_bytes unparsed.now.format)) (is_for_people (word_bytes unparsed.now.format)) (report_sentence (word_bytes unparsed.now.profile) unparsed.now.ring.now unparsed.now.gap.now (word_bytes unparsed.now.drill_off) (word_bytes unparsed.now.drill_wide) (word_bytes unparsed.now.limit) (is_some (word_bytes unparsed.now.outline)) (word_bytes unparsed.now.format)) (word_bytes unparsed.now.waive) (word_bytes unparsed.now.outline) (texts W.contents E.contents to.old) (texts W.contents E.contents to.new)) }
     ensures cause { IfOk result (HasCause (L.failed loader.old) (L.failed loader.new)) }
 {
     let (below, outline) = (is_for_people(unparsed.format), unparsed.outline);
-    let (rules, limit, format) = match parse_report(unparsed) {
+    let (rules, drilling, limit, format) = match parse_report(unparsed) {
         Ok(named) => named,
         Err(reason) => return refuse(to, below, reason, &NoReport(unparsed)),
     };
+    let (profile, what) = (rules.profile(), Subject::Waivers);
     match unparsed.waive {
         None => {
             let order = Order {
                 rules,
+                drilling,
                 limit,
                 format,
                 waivers: None,
@@ -363,16 +365,11 @@ pub(crate) fn report<L: Loader, W: Write, E: Write>(
             let job = Job::Board(BoardJob::Report(order));
             run_outlined(alloc, &job, outline, name, loader, to)
         }
-        Some(file) => match load_table::<L, Waiver>(
-            alloc,
-            rules.profile(),
-            loader,
-            file,
-            Subject::Waivers,
-        )? {
+        Some(file) => match load_table::<L, Waiver>(alloc, profile, loader, file, what)? {
             Ok(table) => {
                 let order = Order {
                     rules,
+                    drilling,
                     limit,
                     format,
                     waivers: Some(table.rows),

@@ -1,4 +1,4 @@
-//! The rules, the profile, the limit of findings and the format that words of the command line name.
+//! The rules, the profile, the drilling, the limit of findings and the format that words of the command line name.
 
 ghost use Rattle.std.specs.Prelude.{◌≡◌};
 ghost use Rattle.ringcheck.specs.ParsedWords as words;
@@ -7,6 +7,7 @@ ghost use Rattle.ringcheck.specs.ParsedWords.{word_bytes};
 use command_line::{PictureWords, ReportWords};
 use grid_units::numbers::{capped_value, is_digits};
 use grid_units::{Dec, Profile, Reason, Rules, Unit};
+use print_text::Drilling;
 
 /// The length in pm that a word names in millimetres, such as `0.125`.
 #[tactic(auto, unfolding(crate::specs::ParsedWords::parse_length))]
@@ -143,18 +144,37 @@ pub(crate) fn parse_limit(word: Option<&str>) -> Result<Option<usize>, Reason>
     }
 }
 
-/// The rules in their profile, the limit of findings and the format of a report, read in this order.
+/// How holes may be drilled: by two lengths in millimetres, or by neither. One of them alone is refused. The one off the place is read first.
+#[tactic(auto, unfolding(crate::specs::ParsedWords::parse_drilling))]
+pub(crate) fn parse_drilling(
+    off: Option<&str>,
+    wide: Option<&str>,
+) -> Result<Option<Drilling>, Reason>
+    ensures { result ≡ words.parse_drilling (word_bytes off.entry) (word_bytes wide.entry) }
+{
+    match (off, wide) {
+        (None, None) => Ok(None),
+        (Some(off), Some(wide)) => {
+            let (off, wide) = (parse_length(off)?, parse_length(wide)?);
+            Ok(Some(Drilling::new(off, wide)?))
+        }
+        _ => Err(Reason::BadRule),
+    }
+}
+
+/// The rules in their profile, the drilling, the limit of findings and the format of a report, read in this order.
 #[tactic(auto, unfolding(crate::specs::ParsedWords::parse_report))]
 pub(crate) fn parse_report(
     unparsed: &ReportWords,
-) -> Result<(Rules, Option<usize>, ReportFormat), Reason>
-    ensures { result ≡ words.parse_report (word_bytes unparsed.now.profile) unparsed.now.ring.now unparsed.now.gap.now (word_bytes unparsed.now.limit) (word_bytes unparsed.now.waive) (word_bytes unparsed.now.outline) (word_bytes unparsed.now.format) }
+) -> Result<(Rules, Option<Drilling>, Option<usize>, ReportFormat), Reason>
+    ensures { result ≡ words.parse_report (word_bytes unparsed.now.profile) unparsed.now.ring.now unparsed.now.gap.now (word_bytes unparsed.now.drill_off) (word_bytes unparsed.now.drill_wide) (word_bytes unparsed.now.limit) (word_bytes unparsed.now.waive) (word_bytes unparsed.now.outline) (word_bytes unparsed.now.format) }
 {
     let rules = parse_check(unparsed.profile, unparsed.ring, unparsed.gap)?;
+    let drilling = parse_drilling(unparsed.drill_off, unparsed.drill_wide)?;
     let limit = parse_limit(unparsed.limit)?;
     let (waives, outlined) = (unparsed.waive.is_some(), unparsed.outline.is_some());
     let format = parse_report_format(waives, outlined, unparsed.format)?;
-    Ok((rules, limit, format))
+    Ok((rules, drilling, limit, format))
 }
 
 /// The rules of a picture in a profile: a ring and a gap, or neither. One of them alone is refused.

@@ -8,7 +8,7 @@ ghost use Rattle.package_check.specs.Package.{FileView};
 ghost use Rattle.report.specs.declared.Acceptances.{Acceptances as TheAcceptances};
 ghost use Rattle.ringcheck.specs.Inner.Jobs.{given_waivers};
 ghost use Rattle.ringcheck.specs.Inner.Loading.{IsKeptBoard};
-ghost use Rattle.ringcheck.specs.ReportStatus.{IsFewer, Judges, PrintsPage, PrintsReport, Reports, asks_wide, has_none, kept_for, says_fewer};
+ghost use Rattle.ringcheck.specs.ReportStatus.{IsFewer, Judges, PrintsPage, PrintsReport, Reports, asks_wide, has_none, kept_for, said_drilling, says_fewer};
 
 use crate::jobs::Order;
 use crate::parsed_words::ReportFormat;
@@ -18,7 +18,7 @@ use grid_units::Profile;
 use package_check::{Board, fewer_in_wide, laws};
 use pad_shapes::Drawn;
 use print_json::ReportJson;
-use print_text::{Particulars, ReportText};
+use print_text::{Drilling, Particulars, ReportText};
 use report::{Acceptances, BoardReport};
 use report_page::HtmlReport;
 use ringcheck_files::Failure;
@@ -77,7 +77,15 @@ fn print<W: Write>(
     } = *reported;
     match options.format {
         ReportFormat::Text => {
-            let text = ReportText::new(alloc, names, report, about.fewer, options.limit, accepted)?;
+            let text = ReportText::new(
+                alloc,
+                names,
+                report,
+                about.fewer,
+                about.drilling,
+                options.limit,
+                accepted,
+            )?;
             write!(out, "{text}")?;
         }
         ReportFormat::Html => print_page(alloc, reported, accepted, out)?,
@@ -118,6 +126,17 @@ fn asks_wide(options: &Order, report: &BoardReport) -> bool
     ensures { result ≡ asks_wide options.now.format options.now.rules report.now }
 {
     says_fewer(options.format, options.rules.profile()) && !has_none(report)
+}
+
+/// The drilling of which a report says what it leaves of the rules: that which is asked for, where the report has no finding.
+fn said_drilling(options: &Order, report: &BoardReport) -> Option<Drilling>
+    ensures { result ≡ said_drilling options.now.drilling report.now }
+{
+    if has_none(report) {
+        options.drilling
+    } else {
+        None
+    }
 }
 
 /// How many findings of the report on a board the wide profile does not have, where the report asks for that; else 0.
@@ -197,15 +216,17 @@ pub(crate) fn report<W: Write>(
     out: &mut W,
 ) -> Result<bool, Failure>
     ensures { (all : List FileView) → map (λ name. name.now) names.now ≡ map (λ source. source.name) all → AllByRecursion (λ source. source.setting.profile ≡ options.now.rules.profile) all
-        → IsKeptBoard (kept_for options.now.format) board.now all → IfOk result (λ passes. Reports manifest.now options.now.rules options.now.limit options.now.format (given_waivers options.now.waivers) outline.now (W.contents out.old) (W.contents out.new) passes all) }
+        → IsKeptBoard (kept_for options.now.format) board.now all → IfOk result (λ passes. Reports manifest.now options.now.rules options.now.drilling options.now.limit options.now.format (given_waivers options.now.waivers) outline.now (W.contents out.old) (W.contents out.new) passes all) }
 {
     laws::report_agrees_with_check();
     let report = report_on(alloc, board, options.rules)?;
     let fewer = fewer_findings(alloc, options, board, &report)?;
+    let drilling = said_drilling(options, &report);
     let about = Particulars {
         manifest,
         program: PROGRAM,
         fewer,
+        drilling,
     };
     let reported = Reported {
         names,

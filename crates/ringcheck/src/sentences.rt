@@ -6,7 +6,7 @@ ghost use Rattle.ringcheck_files.specs.Writers.{texts};
 ghost use Rattle.ringcheck.specs.Sentences as sentences;
 ghost use Rattle.ringcheck.specs.ParsedWords.{word_bytes};
 
-use crate::parsed_words::{parse_length, parse_limit, parse_rules, profile_of};
+use crate::parsed_words::{parse_drilling, parse_length, parse_limit, parse_rules, profile_of};
 use command_line::ReportWords;
 use grid_units::Reason;
 use ringcheck_files::{Failure, Status, Streams, refuse_word};
@@ -34,13 +34,13 @@ pub(crate) fn refuse<W: Write, E: Write, S: Display>(
     Ok(Status::Usage)
 }
 
-/// What a rule is, where a word is none for this reason.
-fn rule_words(reason: Reason) -> &'static str
-    ensures { result.now ≡ sentences.rule_words reason }
+/// What a length is, where a word is none for this reason.
+fn length_words(reason: Reason) -> &'static str
+    ensures { result.now ≡ sentences.length_words reason }
 {
     match reason {
-        Reason::TooFine => "a rule has at most eight decimals, e.g. 0.125",
-        Reason::TooFar => "a rule is at most 10000 mm",
+        Reason::TooFine => "a length has at most eight decimals, e.g. 0.125",
+        Reason::TooFar => "a length is at most 10000 mm",
         _ => "give millimetres without a unit, e.g. 0.127 for 5 mil",
     }
 }
@@ -58,8 +58,44 @@ impl Display for NoLength<'_> {
 
     fn fmt<W: fmt::Write>(&self, f: &mut Formatter<W>) -> fmt::Result {
         let (option, word) = (self.option, self.word);
-        let rule = rule_words(self.reason);
-        write!(f, "{option} {word}: {rule}")
+        let length = length_words(self.reason);
+        write!(f, "{option} {word}: {length}")
+    }
+}
+
+/// What is said of two options that are refused, each with the word for its length: of the first, of the second, or of both.
+#[derive(Clone, Copy)]
+struct NoLengths<'a> {
+    first: (&'static str, &'a str),
+    second: (&'static str, &'a str),
+    /// What the two must be, where each word is a length.
+    both: &'static str,
+}
+
+impl Display for NoLengths<'_> {
+    ghost output = { λ it. Some (sentences.lengths_sentence it.first.0.now it.first.1.now it.second.0.now it.second.1.now it.both.now) };
+
+    fn fmt<W: fmt::Write>(&self, f: &mut Formatter<W>) -> fmt::Result {
+        let ((first, one), (second, other)) = (self.first, self.second);
+        match (parse_length(one), parse_length(other)) {
+            (Err(reason), _) => {
+                let no_first = NoLength {
+                    option: first,
+                    word: one,
+                    reason,
+                };
+                no_first.fmt(f)
+            }
+            (Ok(_), Err(reason)) => {
+                let no_second = NoLength {
+                    option: second,
+                    word: other,
+                    reason,
+                };
+                no_second.fmt(f)
+            }
+            (Ok(_), Ok(_)) => write!(f, "{first} {one} {second} {other}: {}", self.both),
+        }
     }
 }
 
@@ -74,29 +110,35 @@ impl Display for NoRules<'_> {
     ghost output = { λ it. Some (sentences.rules_sentence it.ring.now it.gap.now) };
 
     fn fmt<W: fmt::Write>(&self, f: &mut Formatter<W>) -> fmt::Result {
-        let (ring, gap) = (self.ring, self.gap);
-        match (parse_length(ring), parse_length(gap)) {
-            (Err(reason), _) => {
-                let no_ring = NoLength {
-                    option: "--ring",
-                    word: ring,
-                    reason,
-                };
-                no_ring.fmt(f)
-            }
-            (Ok(_), Err(reason)) => {
-                let no_gap = NoLength {
-                    option: "--gap",
-                    word: gap,
-                    reason,
-                };
-                no_gap.fmt(f)
-            }
-            (Ok(_), Ok(_)) => write!(
-                f,
-                "--ring {ring} --gap {gap}: the ring is 0 or more, and the gap is more than 0"
-            ),
-        }
+        let no_rules = NoLengths {
+            first: ("--ring", self.ring),
+            second: ("--gap", self.gap),
+            both: "the ring is 0 or more, and the gap is more than 0",
+        };
+        no_rules.fmt(f)
+    }
+}
+
+/// What is said of words that name no drilling: of one length without the other, of the first, of the second, or of both.
+#[derive(Clone, Copy)]
+struct NoDrilling<'a> {
+    off: Option<&'a str>,
+    wide: Option<&'a str>,
+}
+
+impl Display for NoDrilling<'_> {
+    ghost output = { λ it. Some (sentences.drilling_sentence (word_bytes it.off) (word_bytes it.wide)) };
+
+    fn fmt<W: fmt::Write>(&self, f: &mut Formatter<W>) -> fmt::Result {
+        let (Some(off), Some(wide)) = (self.off, self.wide) else {
+            return f.write_str("--drill-off and --drill-wide are given together");
+        };
+        let no_drilling = NoLengths {
+            first: ("--drill-off", off),
+            second: ("--drill-wide", wide),
+            both: "both are 0 or more",
+        };
+        no_drilling.fmt(f)
     }
 }
 
@@ -181,7 +223,7 @@ impl Display for NoMeasure<'_> {
 pub(crate) struct NoReport<'a>(pub(crate) &'a ReportWords<'a>);
 
 impl Display for NoReport<'_> {
-    ghost output = { λ it. Some (sentences.report_sentence (word_bytes it.0.now.profile) it.0.now.ring.now it.0.now.gap.now (word_bytes it.0.now.limit) (is_some (word_bytes it.0.now.outline)) (word_bytes it.0.now.format)) };
+    ghost output = { λ it. Some (sentences.report_sentence (word_bytes it.0.now.profile) it.0.now.ring.now it.0.now.gap.now (word_bytes it.0.now.drill_off) (word_bytes it.0.now.drill_wide) (word_bytes it.0.now.limit) (is_some (word_bytes it.0.now.outline)) (word_bytes it.0.now.format)) };
 
     fn fmt<W: fmt::Write>(&self, f: &mut Formatter<W>) -> fmt::Result {
         let words = self.0;
@@ -191,6 +233,10 @@ impl Display for NoReport<'_> {
         }
         if parse_rules(ring, gap).is_err() {
             return NoRules { ring, gap }.fmt(f);
+        }
+        let (off, wide) = (words.drill_off, words.drill_wide);
+        if parse_drilling(off, wide).is_err() {
+            return NoDrilling { off, wide }.fmt(f);
         }
         if parse_limit(words.limit).is_err() {
             return NoCount(words.limit).fmt(f);

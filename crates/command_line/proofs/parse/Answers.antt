@@ -42,9 +42,10 @@ returns-in-Some c =
           on_line (codes "certify") (rows_of (rules_options r g f i m)) i (IsCertify r g f m) line (first_is (codes "in") (rules_options r g f i m)) (is_certify r g f i m) (asks _ _ e (certify_answer r g f i m p q t u s));
       verify = λ i t e u s. on_line (codes "verify") (rows_of (verify_options i t)) i (IsVerify t) line (first_is (codes "in") (verify_options i t)) (is_verify i t) (asks _ _ e (verify_answer i t u s));
       measure = λ p o i m e q t u s. on_line (codes "measure") (rows_of (measure_options p o i m)) i (IsMeasure p o m) line (first_is (codes "in") (measure_options p o i m)) (is_measure p o i m) (asks _ _ e (measure_answer p o i m q t u s));
-      report = λ z r g f n v l o i m e p q y t w x u b s.
-          on_line (codes "report") (rows_of_report z (report_options r g f n v l o i m)) i (IsReport z r g f n v l o m) line (value_is z (codes "in") (report_options r g f n v l o i m) refl) (is_report z r g f n v l o i m)
-          (asks _ _ e (report_answer z r g f n v l o i m p q y t w x u b s));
+      report = λ z r g d a f n v l o i m e p q j k y t w x u b s.
+          let given = report_options r g d a f n v l o i m in
+          on_line (codes "report") (rows_of_report z given) i (IsReport z r g d a f n v l o m) line (value_is z (codes "in") given refl) (is_report z r g d a f n v l o i m)
+          (asks _ _ e (report_answer z r g d a f n v l o i m p q j k y t w x u b s));
       draw = λ o f l i m e p y t u s. on_line (codes "draw") (rows_of (draw_options o f l i m)) i (IsDraw o f l m) line (first_is (codes "in") (draw_options o f l i m)) (is_draw o f l i m) (asks _ _ e (draw_answer o f l i m p y t u s));
       show = λ k p i f e q t u s. on_line (codes "show") (rows_of (show_options k p i f)) i (IsShow k p f) line (first_is (codes "in") (show_options k p i f)) (is_show k p i f) (asks _ _ e (show_answer k p i f q t u s));
       rewrite = λ k i f e p u q. on_line (codes "rewrite") (rows_of (rewrite_options k i f)) i (IsRewrite k f) line (first_is (codes "in") (rewrite_options k i f)) (is_rewrite k i f) (asks _ _ e (rewrite_answer k i f p u q));
@@ -70,7 +71,7 @@ returns c =
       certify = λ r g f i m e p q t u s. rw (memory _ _ e (certify_answer r g f i m p q t u s)) tt;
       verify = λ i t e u s. rw (memory _ _ e (verify_answer i t u s)) tt;
       measure = λ p o i m e q t u s. rw (memory _ _ e (measure_answer p o i m q t u s)) tt;
-      report = λ z r g f n v l o i m e p q y t w x u b s. rw (memory _ _ e (report_answer z r g f n v l o i m p q y t w x u b s)) tt;
+      report = λ z r g d a f n v l o i m e p q j k y t w x u b s. rw (memory _ _ e (report_answer z r g d a f n v l o i m p q j k y t w x u b s)) tt;
       draw = λ o f l i m e p y t u s. rw (memory _ _ e (draw_answer o f l i m p y t u s)) tt;
       show = λ k p i f e q t u s. rw (memory _ _ e (show_answer k p i f q t u s)) tt;
       rewrite = λ k i f e p u q. rw (memory _ _ e (rewrite_answer k i f p u q)) tt;

@@ -14,7 +14,7 @@ use Rattle.report.specs.declared.Acceptances.{Acceptances}
 use Rattle.print_text.specs.declared.report_text.Particulars.{Particulars}
 use Rattle.print_json.specs.Packages.{fewer_value, file_values, finding_values, profile_value}
 use Rattle.print_json.specs.declared.certificate.Certificate.{Certificate}
-use Rattle.print_json.specs.Values.{array_of, cause_word, or_null, least_gap_value, meets_value, picometres, row_value, rules_value, scale_value, whole, acceptance_value, word}
+use Rattle.print_json.specs.Values.{array_of, cause_word, drilling_member, or_null, least_gap_value, meets_value, picometres, row_value, rules_value, scale_value, whole, acceptance_value, word}
 
 abbrev mutual
   -- the text of a value
@@ -69,11 +69,15 @@ report_rest profile about names files report accepted =
     (codes "meets", meets_value report.meets) ∷ (codes "fewer_in_wide", fewer_value profile about.fewer) ∷ (codes "files", array_of (file_values profile names files)) ∷ (codes "scales", array_of (map scale_value report.scales.items))
     ∷ (codes "findings", array_of (finding_values report accepted.rings.now accepted.gaps.now)) ∷ []
 
+-- those after the rules
+abbrev pub drilling_rest : Profile → Particulars → List (List ℕ) → List FileSum → BoardReport → Acceptances → List (List ℕ × Json)
+drilling_rest profile about names files report accepted = drilling_member report.rules about.drilling ++ report_rest profile about names files report accepted
+
 -- those from the manifest on
 abbrev pub about_rest : Profile → Particulars → List (List ℕ) → List FileSum → BoardReport → Acceptances → List (List ℕ × Json)
 about_rest profile about names files report accepted =
     (codes "manifest", word about.manifest.now) ∷ (codes "program", word about.program.now) ∷ (codes "rules", rules_value report.rules)
-    ∷ report_rest profile about names files report accepted
+    ∷ drilling_rest profile about names files report accepted
 
 -- those of what a check found from the profile on, by its certificate
 abbrev pub certified_rest : Certificate → List (List ℕ × Json)

@@ -9,6 +9,7 @@ ghost use Rattle.manifest.specs.declared.Entry.{Entry as TheEntry};
 ghost use Rattle.package_check.specs.Measures.{PackagePasses};
 ghost use Rattle.report.specs.declared.Measure.{Measure};
 ghost use Rattle.package_check.specs.Soundness.{IsSound};
+ghost use Rattle.print_text.specs.Drilling.{DrillBounds};
 ghost use Rattle.ringcheck.specs.ParsedWords.{parse_check, parse_measure, parse_report};
 ghost use Rattle.ringcheck.specs.CheckStatus.{HasFiles, sources};
 ghost use Rattle.ringcheck.specs.declared.parsed_words.MeasureOrder.{MeasureOrder as TheOrder};
@@ -97,7 +98,7 @@ fn what_is_measured_passes_under_just_its_rules(rt: HostRuntime) {
 
 /// Whether a report finds nothing on a package of three files at hand. Then the files that its manifest names are sound as they stand.
 fn is_told_sound<'x>(alloc: Global, records: &'x str, layer: &'x str, drill: &'x str) -> bool
-    ensures { IsTrue result → (asked : GridRules × Option ℕ × TheFormat) × (parse_report None (codes "0.125") (codes "0.25") None None None None ≡ Ok asked) × (entries : List TheEntry) × (manifest_in asked.0.profile records.now ≡ Ok entries) × (files : List (List ℕ))
+    ensures { IsTrue result → (asked : GridRules × Option DrillBounds × Option ℕ × TheFormat) × (parse_report None (codes "0.125") (codes "0.25") None None None None None None ≡ Ok asked) × (entries : List TheEntry) × (manifest_in asked.0.profile records.now ≡ Ok entries) × (files : List (List ℕ))
         × HasFiles (λ n b. Contains {X = List ℕ × List ℕ} ((codes "m.csv", records.now) ∷ (codes "top.gbr", layer.now) ∷ (codes "pth.drl", drill.now) ∷ []) (n, b)) entries files
         × IsSound (sources asked.0.profile entries files) asked.0 }
 {

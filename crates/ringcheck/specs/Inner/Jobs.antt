@@ -64,7 +64,7 @@ board_keep (board_job.Draw profile rules) = keep.RowsAndDrawn
 abbrev pub HoldsOfBoard : BoardJob → List Drawn → List ℕ → Option (List ℕ) → Option (List ℕ) → Bool → List FileView → Type 0
 HoldsOfBoard (board_job.Measure order) outline name before after = PrintsMeasure order before after
 HoldsOfBoard (board_job.Report order) outline name before after =
-    Reports name order.rules order.limit order.format (given_waivers order.waivers) outline before after
+    Reports name order.rules order.drilling order.limit order.format (given_waivers order.waivers) outline before after
 HoldsOfBoard (board_job.Draw profile rules) outline name before after = PrintsPicture rules outline before after
 
 -- what is said of the manifest of this text and entries, and of the files, of the package under a name where a job on them, with an outline of these parts, passes, or does not

@@ -3,9 +3,9 @@ use Rattle.ringcheck.proofs.RequestLemmas.{certify_status, check_status, draw_st
 use Rattle.ringcheck.proofs.program.run.Goals as goal
 
 pub returns-in-Ok-clause-report : goal.returns-in-Ok-clause-report
-returns-in-Ok-clause-report g c zero r gap profile limit waive outline format folder m words plain_r plain_gap plain_profile plain_limit plain_waive plain_outline plain_format plain_folder plain_m =
-    let (there, is) = c.in-Ok.ensures.report zero r gap profile limit waive outline format folder m words plain_r plain_gap plain_profile plain_limit plain_waive plain_outline plain_format plain_folder plain_m in
-    rw (sym there) (report_status _ zero r gap profile limit waive outline format m c.in-Ok.line.request _ _ _ _ _ is c.answer.ensures)
+returns-in-Ok-clause-report g c zero r gap off wide profile limit waive outline format folder m words plain_r plain_gap plain_off plain_wide plain_profile plain_limit plain_waive plain_outline plain_format plain_folder plain_m =
+    let (there, is) = c.in-Ok.ensures.report zero r gap off wide profile limit waive outline format folder m words plain_r plain_gap plain_off plain_wide plain_profile plain_limit plain_waive plain_outline plain_format plain_folder plain_m in
+    rw (sym there) (report_status _ zero r gap off wide profile limit waive outline format m c.in-Ok.line.request _ _ _ _ _ is c.answer.ensures)
 
 pub returns-in-Ok-clause-draw : goal.returns-in-Ok-clause-draw
 returns-in-Ok-clause-draw g c rules profile outline folder m words plain_rules plain_profile plain_outline plain_folder plain_m =

@@ -36,6 +36,7 @@ returns g c all same read kept =
       manifest = refl;
       program = refl;
       is_fewer = c.in_ok-fewer.ensures all read flashed c.in_ok-report.ensures;
+      is_drilling = c.said_drilling-drilling.ensures;
       accepted = accepted;
       judged = subst (λ (ns : List (List ℕ)). Judges (given_waivers options.waivers) ns report passes accepted) same judged;
       written = subst (λ (ns : List (List ℕ)). PrintsReport options.format ns board c.args.outline.now report about options.limit accepted before after) same written;

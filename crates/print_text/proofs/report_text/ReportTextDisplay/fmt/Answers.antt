@@ -5,12 +5,13 @@ pub returns-clause-writes : goal.returns-clause-writes
 returns-clause-writes g c = λ plain ok.
     let report = c.self.inside.report.now in
     let fewer = c.self.inside.fewer in
+    let drilling = c.self.inside.drilling in
     let limit = c.self.inside.limit in
     let accepted = c.self.inside.accepted.now in
     let names : List (List ℕ) = map (λ name. name.now) c.self.inside.names.now in
-    let text = waived_report_text names report fewer limit accepted in
+    let text = waived_report_text names report fewer drilling limit accepted in
     let by = λ (rings : List RingLack) (before : ℕ) (gaps : List GapLack) (layers : List LayerHead).
-    (head_text names report
+    (head_text names report drilling
     ++ (flat_map (layer_text names report.rules limit rings accepted.rings.now) (enumerate_from 0 layers)
     ++ (gaps_text names report.rules limit before gaps accepted.gaps.now ++ summary_text names (length rings + length gaps) layers rings)))
     ++ (causes_text report ++ last_lines report fewer accepted.rings.now accepted.gaps.now accepted.idle.now) in

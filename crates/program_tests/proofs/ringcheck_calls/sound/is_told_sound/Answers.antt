@@ -5,5 +5,5 @@ use Rattle.program_tests.proofs.ringcheck_calls.sound.is_told_sound.Goals as goa
 
 pub returns : goal.returns
 returns c pass =
-    let says = rw c.new.ensures at (c.run.ensures.report false (codes "0.125") (codes "0.25") None None None None None None (codes "m.csv") refl refl refl refl refl refl refl refl refl refl) in
-    report_of_three true (report_sentence None (codes "0.125") (codes "0.25") None false None) c.args.records.now c.args.layer.now c.args.drill.now _ _ _ c.run.result says (search rules)
+    let says = rw c.new.ensures at (c.run.ensures.report false (codes "0.125") (codes "0.25") None None None None None None None None (codes "m.csv") refl refl refl refl refl refl refl refl refl refl refl refl) in
+    report_of_three true (report_sentence None (codes "0.125") (codes "0.25") None None None false None) c.args.records.now c.args.layer.now c.args.drill.now _ _ _ c.run.result says (search rules)
