@@ -138,7 +138,8 @@ IsWaivingReportStatus has name rules drilling limit form (Some file) outline bef
 
 -- what a status says of a report with the rules, the drilling, the limit and the format that words name, or where these are refused and this sentence
 -- says why, below their line or, if not `below`, beside it; `waive` is the file of waivers, and `outline` that of an outline, if there is one
-abbrev pub IsParsedReportStatus : Relation → List ℕ → Result (GridRules × Option DrillBounds × Option ℕ × ReportFormat) Reason → Bool → List ℕ → Option (List ℕ) → Option (List ℕ) → Written → Written → Status → Type 0
+abbrev pub IsParsedReportStatus : Relation → List ℕ → Result (GridRules × Option DrillBounds × Option ℕ × ReportFormat) Reason → Bool → List ℕ
+    → Option (List ℕ) → Option (List ℕ) → Written → Written → Status → Type 0
 IsParsedReportStatus has name (Ok (rules, drilling, limit, form)) below sentence waive outline before after s =
     IsWaivingReportStatus has name rules drilling limit form waive outline before after s
 IsParsedReportStatus has name (Err why) below sentence waive outline before after s = IsExplainedUsage below why sentence before after s

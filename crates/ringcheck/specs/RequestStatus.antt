@@ -47,8 +47,11 @@ IsRequestStatus (Measure profile format manifest) has failed_before failed_after
 IsRequestStatus (Report options manifest) has failed_before failed_after before after s =
     IsExitOf options.exit_zero
     (IsParsedReportStatus has manifest.now
-    (parse_report (word_bytes options.profile) options.ring.now options.gap.now (word_bytes options.drill_off) (word_bytes options.drill_wide) (word_bytes options.limit) (word_bytes options.waive) (word_bytes options.outline) (word_bytes options.format))
-    (is_for_people (word_bytes options.format)) (report_sentence (word_bytes options.profile) options.ring.now options.gap.now (word_bytes options.drill_off) (word_bytes options.drill_wide) (word_bytes options.limit) (is_some (word_bytes options.outline)) (word_bytes options.format))
+    (parse_report (word_bytes options.profile) options.ring.now options.gap.now (word_bytes options.drill_off) (word_bytes options.drill_wide)
+    (word_bytes options.limit) (word_bytes options.waive) (word_bytes options.outline) (word_bytes options.format))
+    (is_for_people (word_bytes options.format))
+    (report_sentence (word_bytes options.profile) options.ring.now options.gap.now (word_bytes options.drill_off) (word_bytes options.drill_wide)
+    (word_bytes options.limit) (is_some (word_bytes options.outline)) (word_bytes options.format))
     (word_bytes options.waive) (word_bytes options.outline) before after) s
 IsRequestStatus (Draw options manifest) has failed_before failed_after before after s =
     IsParsedDrawStatus has manifest.now (parse_draw (word_bytes options.profile) (word_bytes options.ring) (word_bytes options.gap))
