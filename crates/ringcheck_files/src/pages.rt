@@ -87,6 +87,7 @@ Repeat: the drill file repeats holes with a code or a pattern, but the check
 needs each hole on a line of its own. Export it again without patterns, or:
   gerbv -x drill -o OUT IN
 Diameters are then rounded to 1 mil, and routed slots are dropped.
+Or check with --profile wide: it reads hits that R repeats, as R3X2.54 does.
 ",
     "\
 BadWord: the check does not know this Gerber word or parameter. Look at the
